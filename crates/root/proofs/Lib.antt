@@ -1,0 +1,12 @@
+pub mod Digits
+pub mod Floor
+pub mod Pack
+pub mod Square
+pub mod Steps
+pub mod Reading
+pub mod Rounds
+pub mod Values
+pub mod Nearer
+pub mod Ties
+pub mod Correct
+pub mod Worked
