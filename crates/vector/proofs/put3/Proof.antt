@@ -1,0 +1,64 @@
+-- `vector::put3` meets its contract. Assumes nothing.
+use native.Mathlib.Omega.{arith}
+use lib.ListN.{length-set}
+use Rattle.vector.proofs.Rows.{put-three}
+use borrow.Author.Needs.{needs}
+use Rattle.vector.proofs.put3.Statement.{statement}
+use Rattle.vector.proofs.put3.Tie as tie
+
+mul-xs : tie.Need-mul-xs
+mul-xs c = search needs
+
+mul-xs-2 : tie.Need-mul-xs-2
+mul-xs-2 c = search needs
+
+slice-write-xs : tie.Need-slice-write-xs
+slice-write-xs c = search needs
+
+mul-xs-3 : tie.Need-mul-xs-3
+mul-xs-3 c = search needs
+
+add-xs : tie.Need-add-xs
+add-xs c = search needs
+
+mul-xs-4 : tie.Need-mul-xs-4
+mul-xs-4 c = search needs
+
+slice-write-xs-2 : tie.Need-slice-write-xs-2
+slice-write-xs-2 c = simp length-set (omega arith)
+
+mul-xs-5 : tie.Need-mul-xs-5
+mul-xs-5 c = search needs
+
+add-xs-2 : tie.Need-add-xs-2
+add-xs-2 c = search needs
+
+mul-xs-6 : tie.Need-mul-xs-6
+mul-xs-6 c = search needs
+
+slice-write-xs-3 : tie.Need-slice-write-xs-3
+slice-write-xs-3 c = search needs
+
+same-length : tie.Need-same-length
+same-length c = search needs
+
+returns : tie.Need-returns
+returns c = put-three (c .args .xs .now) (c .args .i) (c .args .p .x) (c .args .p .y) (c .args .p .z)
+
+pub put3-spec : {M : Type 1} → statement M
+put3-spec =
+    tie.close
+    (tie.spec
+    mul-xs
+    mul-xs-2
+    slice-write-xs
+    mul-xs-3
+    add-xs
+    mul-xs-4
+    slice-write-xs-2
+    mul-xs-5
+    add-xs-2
+    mul-xs-6
+    slice-write-xs-3
+    same-length
+    returns)
