@@ -1,0 +1,91 @@
+-- Two accepted cells with the same corners, face by face, are read alike, whatever their mid-side nodes hold. Assumes nothing.
+use mathlib.Core.Path.{_≡_, refl, sym, ap, _∙_, subst}
+use mathlib.Core.List.{List, [], _∷_, _++_, map, flatten, map-append}
+use Prim.Native.Nat.{ℕ, _<_}
+use native.Mathlib.Omega.{arith}
+use lib.Dec.{T, ltb, ltb→lt}
+use lib.Ieee.{Float}
+use lib.Ieee.Fits.{and-l, and-r}
+use lib.ListN.{length, take, drop, length-map}
+use lib.Seq.{take-at, drop-at}
+use Rattle.cell.specs.Types.{spaceType, spaceCorners, planeType, planeCorners}
+use Rattle.cell.specs.Faces.{polygonOf}
+use Rattle.cell.specs.Read.{corner, Polygon, Kind, none, kind, read, readAs, spaceKind, planeKind}
+use Rattle.cell.specs.Code.{below}
+use Rattle.cell.specs.Claims.{facesAs, Alike, SameFirst, SpaceMidSidesFree, PlaneMidSidesFree}
+use Rattle.cell.specs.declared.InSpace.the-variants as s
+use Rattle.cell.specs.declared.InPlane.the-variants as p
+use Rattle.cell.proofs.Inside.{among-corners}
+use Rattle.cell.proofs.Polygon.{polygon-below}
+use Rattle.cell.proofs.Bounds.{accepted, refused-unread}
+
+sizes-differ : (n : ℕ) (l : List ℕ) → n ∷ l ≡ [] → ⊥
+sizes-differ n l e = let z : _≡_ {A = ℕ} 0 1 = cc in omega arith
+
+-- ---- lists cut at the same sizes are equal where they are equal in a row
+
+module _ {A B : Type 0} (g : A → B) (h : A → B) where
+  regroup : (ls ms : List (List A)) → map length ls ≡ map length ms → map g (flatten ls) ≡ map h (flatten ms)
+      → map (map g) ls ≡ map (map h) ms
+  unfolding flatten
+  regroup [] [] e q = refl
+  regroup [] (m ∷ ms) e q = absurd (sizes-differ (length m) (map length ms) (sym e))
+  regroup (l ∷ ls) [] e q = absurd (sizes-differ (length l) (map length ls) e)
+  regroup (l ∷ ls) (m ∷ ms) e q =
+      let n : length l ≡ length m = cc in
+      let k : length (map h m) ≡ length (map g l) = length-map m h ∙ sym n ∙ sym (length-map l g) in
+      let j : map g l ++ map g (flatten ls) ≡ map h m ++ map h (flatten ms)
+      = sym (map-append g l (flatten ls)) ∙ q ∙ map-append h m (flatten ms) in
+      let front : map g l ≡ map h m
+      = sym (take-at (map g l) (map g (flatten ls)) (length (map g l)) refl) ∙ ap (take (length (map g l))) j
+      ∙ take-at (map h m) (map h (flatten ms)) (length (map g l)) k in
+      let rest : map g (flatten ls) ≡ map h (flatten ms)
+      = sym (drop-at (map g l) (map g (flatten ls)) (length (map g l)) refl) ∙ ap (drop (length (map g l))) j
+      ∙ drop-at (map h m) (map h (flatten ms)) (length (map g l)) k in
+      let tail : map length ls ≡ map length ms = cc in
+      ap (λ r. r ∷ map (map g) ls) front ∙ ap (λ r. map h m ∷ r) (regroup ls ms tail rest)
+
+-- ---- the claims
+
+pub alike : (w : ℕ) (k : Kind) → Alike w k
+unfolding readAs
+alike w none c c′ xs xs′ ps ps′ r r′ z = absurd (refused-unread 1 ps r)
+alike w (kind n faces) c c′ xs xs′ ps ps′ r r′ z =
+    let a = accepted w (kind n faces) n faces c xs ps refl r in
+    let b = accepted w (kind n faces) n faces c′ xs′ ps′ refl r′ in
+    r ∙ ap read (a .1 ∙ regroup (corner w c xs) (corner w c′ xs′) (faces c) (faces c′) (z .sizes) (z .coordinates) ∙ sym (b .1)) ∙ sym r′
+
+same-below : (g h : ℕ → List Float) (n : ℕ) (ps : List ℕ) → T (below n ps) → ((p : ℕ) → p < n → g p ≡ h p) → map g ps ≡ map h ps
+unfolding below
+same-below g h n [] b e = refl
+same-below g h n (p ∷ ps) b e =
+    let k : p < n = ltb→lt p n (and-l (ltb p n) (below n ps) b) in
+    ap (λ r. r ∷ map g ps) (e p k) ∙ ap (λ l. h p ∷ l) (same-below g h n ps (and-r (ltb p n) (below n ps) b) e)
+
+-- where the faces are the same and stand among the first n positions, those decide
+first-alike : (w : ℕ) (k : Kind) (n : ℕ) (c c′ : List ℕ) (xs xs′ : List Float) (ps ps′ : List Polygon) → readAs w k c xs ≡ read ps
+    → readAs w k c′ xs′ ≡ read ps′ → facesAs k c ≡ facesAs k c′ → T (below n (flatten (facesAs k c))) → SameFirst w n c c′ xs xs′
+    → readAs w k c xs ≡ readAs w k c′ xs′
+first-alike w k n c c′ xs xs′ ps ps′ r r′ f b z =
+    alike w k c c′ xs xs′ ps ps′ r r′
+    (record {
+      sizes = ap (map length) f;
+      coordinates =
+          same-below (corner w c xs) (corner w c′ xs′) n (flatten (facesAs k c)) b z
+          ∙ ap (λ l. map (corner w c′ xs′) (flatten l)) f;
+    })
+
+pub space-mid-sides-free : SpaceMidSidesFree
+space-mid-sides-free t k c c′ xs xs′ ps ps′ e r r′ f z =
+    let q : spaceKind (spaceType t) ≡ spaceKind (s.Known k) = ap spaceKind e in
+    let n = spaceCorners k (length c) in
+    first-alike 3 (spaceKind (spaceType t)) n c c′ xs xs′ ps ps′ r r′
+    (subst (λ d. facesAs d c ≡ facesAs d c′) (sym q) f) (subst (λ d. T (below n (flatten (facesAs d c)))) (sym q) (among-corners k c)) z
+
+pub plane-mid-sides-free : PlaneMidSidesFree
+plane-mid-sides-free t k c c′ xs xs′ ps ps′ e r r′ f z =
+    let q : planeKind (planeType t) ≡ planeKind (p.Known k) = ap planeKind e in
+    let n = planeCorners k (length c) in
+    first-alike 2 (planeKind (planeType t)) n c c′ xs xs′ ps ps′ r r′
+    (subst (λ d. facesAs d c ≡ facesAs d c′) (sym q) (ap polygonOf f))
+    (subst (λ d. T (below n (flatten (facesAs d c)))) (sym q) (polygon-below n n (omega arith))) z

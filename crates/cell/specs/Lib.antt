@@ -1,0 +1,5 @@
+pub mod Types
+pub mod Faces
+pub mod Read
+pub mod Code
+pub mod Claims
