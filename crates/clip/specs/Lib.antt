@@ -1,0 +1,4 @@
+pub mod Clip
+pub mod Cell
+pub mod Code
+pub mod View

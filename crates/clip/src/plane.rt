@@ -1,0 +1,298 @@
+// Polygons in the plane, cut by a line: the functions of `space`, one width less.
+ghost use mathlib.Core.Path.{_≡_};
+ghost use mathlib.Core.List.{[]};
+ghost use Prim.Native.Nat.{_+_, _*_, _<_, _≤_};
+ghost use lib.ListN.{length};
+ghost use Rattle.vector.specs.Rows.{rows, seg, segs};
+ghost use Rattle.vector.specs.View.{vec2};
+ghost use Rattle.clip.specs.Clip.{alike, clipEdge, clipSides, duplicate, edges, keptSide, liesOn, planeIntersection};
+ghost use Rattle.clip.specs.Clip.{planeSectionSegments, pushAll, pushSegment, pushSegments, pushUnique, sectionOn, withoutClosing};
+ghost use Rattle.clip.specs.Cell.{atMost};
+ghost use Rattle.clip.specs.Code.{Points, Segments};
+ghost use Rattle.clip.specs.View.{cut2, points2};
+use crate::Side;
+use crate::both_at_most;
+use crate::next_of;
+use crate::or_below;
+use crate::ratio;
+use vector::Vec2;
+use vector::absolute;
+use vector::point2;
+use vector::put2;
+
+// The line that cuts, by a point of it and its unit normal, and the tolerance of the tests.
+pub struct Cut {
+    pub origin: Vec2,
+    pub normal: Vec2,
+    pub tol: f64,
+}
+
+// The points that a directed edge gives when its polygon is clipped.
+pub enum Clip {
+    Nothing,
+    One(Vec2),
+    Two(Vec2, Vec2),
+}
+
+// Intersection of a polygon of n corners with the cut: its segments, written to out. Gives how many there are.
+//
+// The polygon is clipped to one side of the cut, and the boundary edges that lie on the cut are kept. This
+// handles concave polygons too, and yields one segment per crossing interval.
+pub fn plane_section_segments(
+    poly: &[f64],
+    n: usize,
+    cut: Cut,
+    points: &mut [f64],
+    out: &mut [f64],
+) -> usize
+    requires { ⌜ (2 * n ≤ length (now poly)) × (2 * atMost n ≤ length (now points))
+        × (4 * atMost n ≤ length (now out)) ⌝ }
+    ensures { λ r. ⌜ Segments 2 (now (out .entry))
+        (planeSectionSegments (cut2 cut) (rows 2 n (now (poly .entry)))) r (now (out .exit)) ⌝ }
+{
+    if n < 3 {
+        return 0;
+    }
+    let side = kept_side(poly, n, cut);
+    match side {
+        Side::Above => section_on(poly, n, cut, 1.0, points, out),
+        Side::Below => section_on(poly, n, cut, -1.0, points, out),
+        Side::Neither => 0,
+    }
+}
+
+// The same for a polygon of at most four corners, with room of its own for the clipped points.
+pub fn section_small(poly: &[f64], n: usize, cut: Cut, out: &mut [f64]) -> usize
+    requires { ⌜ (n ≤ 4) × (2 * n ≤ length (now poly)) × (4 * atMost n ≤ length (now out)) ⌝ }
+    ensures { λ r. ⌜ Segments 2 (now (out .entry))
+        (planeSectionSegments (cut2 cut) (rows 2 n (now (poly .entry)))) r (now (out .exit)) ⌝ }
+{
+    let mut points = [0.0f64; 12];
+    plane_section_segments(poly, n, cut, &mut points, out)
+}
+
+// The same for a polygon of at most 384 corners.
+pub fn section_large(poly: &[f64], n: usize, cut: Cut, out: &mut [f64]) -> usize
+    requires { ⌜ (n ≤ 384) × (2 * n ≤ length (now poly)) × (4 * atMost n ≤ length (now out)) ⌝ }
+    ensures { λ r. ⌜ Segments 2 (now (out .entry))
+        (planeSectionSegments (cut2 cut) (rows 2 n (now (poly .entry)))) r (now (out .exit)) ⌝ }
+{
+    let mut points = [0.0f64; 1152];
+    plane_section_segments(poly, n, cut, &mut points, out)
+}
+
+// The side that holds the polygon's interior: above if any corner is, else below if any is.
+fn kept_side(poly: &[f64], n: usize, cut: Cut) -> Side
+    requires { ⌜ 2 * n ≤ length (now poly) ⌝ }
+    ensures { λ r. ⌜ r ≡ keptSide (cut2 cut) (rows 2 n (now (poly .entry))) ⌝ }
+{
+    let mut seen = false;
+    let mut i = 0;
+    while i < n {
+        let d = point2(poly, i).distance(cut.origin, cut.normal);
+        if d > cut.tol {
+            return Side::Above;
+        }
+        seen = or_below(seen, d, cut.tol);
+        i += 1;
+    }
+    if seen {
+        return Side::Below;
+    }
+    Side::Neither
+}
+
+// The segments of the polygon clipped to the side of this sign, written to out. Gives how many there are.
+fn section_on(
+    poly: &[f64],
+    n: usize,
+    cut: Cut,
+    sign: f64,
+    points: &mut [f64],
+    out: &mut [f64],
+) -> usize
+    requires { ⌜ (0 < n) × (2 * n ≤ length (now poly)) × (2 * atMost n ≤ length (now points))
+        × (4 * atMost n ≤ length (now out)) ⌝ }
+    ensures { λ r. ⌜ Segments 2 (now (out .entry)) (sectionOn (cut2 cut) sign (rows 2 n (now (poly .entry)))) r
+        (now (out .exit)) ⌝ }
+{
+    let tol2 = cut.tol * cut.tol;
+    let clipped = clip_polygon(poly, n, cut, sign, tol2, points);
+    let m = without_closing(points, clipped, tol2);
+    if m < 2 {
+        return 0;
+    }
+    segments(points, m, cut, tol2, out)
+}
+
+// The clipped points of the polygon, written to points. Gives how many there are.
+fn clip_polygon(poly: &[f64], n: usize, cut: Cut, sign: f64, tol2: f64, points: &mut [f64]) -> usize
+    requires { ⌜ (0 < n) × (2 * n ≤ length (now poly)) × (2 * atMost n ≤ length (now points)) ⌝ }
+    ensures { λ r. ⌜ Points 2 (now (points .entry))
+        (pushAll tol2 [] (clipSides (cut2 cut) sign (edges (rows 2 n (now (poly .entry)))))) r
+        (now (points .exit)) ⌝ }
+{
+    let mut a = point2(poly, 0);
+    let mut da = sign * a.distance(cut.origin, cut.normal);
+    let mut m = 0;
+    let mut i = 0;
+    while i < n {
+        let b = point2(poly, next_of(i, n));
+        let db = sign * b.distance(cut.origin, cut.normal);
+        m = push_clip(points, m, clip_edge(a, da, b, db, cut), tol2);
+        a = b;
+        da = db;
+        i += 1;
+    }
+    m
+}
+
+// What the edge from a to b gives, by the signed distances da and db.
+fn clip_edge(a: Vec2, da: f64, b: Vec2, db: f64, cut: Cut) -> Clip
+    ensures { λ r. ⌜ points2 r ≡ clipEdge (cut2 cut) (vec2 a) da (vec2 b) db ⌝ }
+{
+    let low = -cut.tol;
+    if da >= low {
+        if db >= low {
+            return Clip::One(b);
+        }
+        return Clip::One(plane_intersection(a, da, b, db, cut));
+    }
+    if db >= low {
+        return Clip::Two(plane_intersection(a, da, b, db, cut), b);
+    }
+    Clip::Nothing
+}
+
+// Where the edge from a to b meets the cut, moved onto the cut to remove the interpolation error.
+fn plane_intersection(a: Vec2, da: f64, b: Vec2, db: f64, cut: Cut) -> Vec2
+    ensures { λ r. ⌜ vec2 r ≡ planeIntersection (cut2 cut) (vec2 a) da (vec2 b) db ⌝ }
+{
+    let t = ratio(da, db);
+    let p = a.plus(b.minus(a).scaled(t));
+    let d = p.distance(cut.origin, cut.normal);
+    let n = cut.normal;
+    p.minus(n.scaled(d))
+}
+
+// Pushes the points of an edge after the m there are. Gives how many there are then.
+fn push_clip(points: &mut [f64], m: usize, clip: Clip, tol2: f64) -> usize
+    requires { ⌜ 2 * (m + length (points2 clip)) ≤ length (now points) ⌝ }
+    ensures { λ r. ⌜ Points 2 (now (points .entry))
+        (pushAll tol2 (rows 2 m (now (points .entry))) (points2 clip)) r (now (points .exit)) ⌝ }
+{
+    match clip {
+        Clip::Nothing => m,
+        Clip::One(p) => push_unique(points, m, p, tol2),
+        Clip::Two(p, q) => {
+            let k = push_unique(points, m, p, tol2);
+            push_unique(points, k, q, tol2)
+        }
+    }
+}
+
+// Pushes p after the m points there are, unless it is near the last. Gives how many there are then.
+fn push_unique(points: &mut [f64], m: usize, p: Vec2, tol2: f64) -> usize
+    requires { ⌜ 2 * (m + 1) ≤ length (now points) ⌝ }
+    ensures { λ r. ⌜ Points 2 (now (points .entry)) (pushUnique tol2 (rows 2 m (now (points .entry))) (vec2 p))
+        r (now (points .exit)) ⌝ }
+{
+    if m == 0 {
+        put2(points, m, p);
+        return m + 1;
+    }
+    if point2(points, m - 1).dist2(p) > tol2 {
+        put2(points, m, p);
+        return m + 1;
+    }
+    m
+}
+
+// How many of the m points are left without the closing duplicate of the cyclic walk.
+fn without_closing(points: &[f64], m: usize, tol2: f64) -> usize
+    requires { ⌜ 2 * m ≤ length (now points) ⌝ }
+    ensures { λ r. ⌜ (rows 2 r (now (points .entry)) ≡ withoutClosing tol2 (rows 2 m (now (points .entry)))) ×
+        (r ≤ m) ⌝ }
+{
+    if m <= 1 {
+        return m;
+    }
+    if point2(points, 0).dist2(point2(points, m - 1)) <= tol2 {
+        return m - 1;
+    }
+    m
+}
+
+// The edges of m clipped points that lie on the cut, each once, written to out. Gives how many there are.
+fn segments(points: &[f64], m: usize, cut: Cut, tol2: f64, out: &mut [f64]) -> usize
+    requires { ⌜ (0 < m) × (2 * m ≤ length (now points)) × (4 * m ≤ length (now out)) ⌝ }
+    ensures { λ r. ⌜ Segments 2 (now (out .entry))
+        (pushSegments (cut2 cut) tol2 [] (edges (rows 2 m (now (points .entry))))) r (now (out .exit)) ⌝ }
+{
+    let mut a = point2(points, 0);
+    let mut k = 0;
+    let mut i = 0;
+    while i < m {
+        let b = point2(points, next_of(i, m));
+        k = push_segment(out, k, a, b, cut, tol2);
+        a = b;
+        i += 1;
+    }
+    k
+}
+
+// Pushes the segment from a to b after the k there are, if it lies on the cut and is no duplicate. Gives how many
+// there are then.
+fn push_segment(out: &mut [f64], k: usize, a: Vec2, b: Vec2, cut: Cut, tol2: f64) -> usize
+    requires { ⌜ 4 * (k + 1) ≤ length (now out) ⌝ }
+    ensures { λ r. ⌜ Segments 2 (now (out .entry))
+        (pushSegment (cut2 cut) tol2 (segs 2 k (now (out .entry))) (seg (vec2 a) (vec2 b))) r
+        (now (out .exit)) ⌝ }
+{
+    if lies_on(a, b, cut, tol2) {
+        if duplicate(out, k, a, b, tol2) {
+            return k;
+        }
+        put2(out, 2 * k, a);
+        put2(out, 2 * k + 1, b);
+        return k + 1;
+    }
+    k
+}
+
+// Whether a and b are on the cut and apart.
+fn lies_on(a: Vec2, b: Vec2, cut: Cut, tol2: f64) -> bool
+    ensures { λ r. ⌜ r ≡ liesOn (cut2 cut) tol2 (seg (vec2 a) (vec2 b)) ⌝ }
+{
+    let da = a.distance(cut.origin, cut.normal);
+    let db = b.distance(cut.origin, cut.normal);
+    if both_at_most(absolute(da), absolute(db), cut.tol) {
+        return a.dist2(b) > tol2;
+    }
+    false
+}
+
+// Whether one of the k segments there are has its ends near a and b, either way round.
+fn duplicate(out: &[f64], k: usize, a: Vec2, b: Vec2, tol2: f64) -> bool
+    requires { ⌜ 4 * k ≤ length (now out) ⌝ }
+    ensures { λ r. ⌜ r ≡ duplicate tol2 (segs 2 k (now (out .entry))) (seg (vec2 a) (vec2 b)) ⌝ }
+{
+    let mut i = 0;
+    while i < k {
+        if alike(point2(out, 2 * i), point2(out, 2 * i + 1), a, b, tol2) {
+            return true;
+        }
+        i += 1;
+    }
+    false
+}
+
+// Whether the ends p and q are near a and b, either way round.
+fn alike(p: Vec2, q: Vec2, a: Vec2, b: Vec2, tol2: f64) -> bool
+    ensures { λ r. ⌜ r ≡ alike tol2 (seg (vec2 p) (vec2 q)) (seg (vec2 a) (vec2 b)) ⌝ }
+{
+    if both_at_most(p.dist2(a), q.dist2(b), tol2) {
+        return true;
+    }
+    both_at_most(p.dist2(b), q.dist2(a), tol2)
+}

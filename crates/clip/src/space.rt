@@ -1,0 +1,378 @@
+// Polygons in space, cut by a plane.
+ghost use mathlib.Core.Path.{_≡_};
+ghost use mathlib.Core.List.{[], _++_, map};
+ghost use Prim.Native.Nat.{_+_, _*_, _<_, _≤_};
+ghost use lib.ListN.{length};
+ghost use Rattle.vector.specs.Rows.{rows, seg, segs};
+ghost use Rattle.vector.specs.View.{frameOf, vec3};
+ghost use Rattle.clip.specs.Clip.{alike, clipEdge, clipSides, duplicate, edges, keptSide, liesOn, planeIntersection};
+ghost use Rattle.clip.specs.Clip.{planeSectionSegments, pushAll, pushSegment, pushSegments, pushUnique, sectionOn, withoutClosing};
+ghost use Rattle.clip.specs.Cell.{atMost, cellSegments, cutBy, faceSegments, facesOf, projectSeg};
+ghost use Rattle.clip.specs.Code.{Points, Rising, Segments};
+ghost use Rattle.clip.specs.View.{cut3, points3};
+use crate::Side;
+use crate::both_at_most;
+use crate::next_of;
+use crate::or_below;
+use crate::ratio;
+use vector::Plane;
+use vector::Vec3;
+use vector::absolute;
+use vector::point3;
+use vector::put2;
+use vector::put3;
+
+// The plane that cuts, by a point of it and its unit normal, and the tolerance of the tests.
+pub struct Cut {
+    pub origin: Vec3,
+    pub normal: Vec3,
+    pub tol: f64,
+}
+
+// The points that a directed edge gives when its polygon is clipped.
+pub enum Clip {
+    Nothing,
+    One(Vec3),
+    Two(Vec3, Vec3),
+}
+
+// A cell of m corners in all, which stand in coords face by face; ends are running totals. Its segments, in the
+// plane's own coordinates, written to out. Gives how many there are.
+pub fn cell_segments(
+    coords: &[f64],
+    ends: &[usize],
+    m: usize,
+    plane: Plane,
+    tol: f64,
+    points: &mut [f64],
+    space: &mut [f64],
+    out: &mut [f64],
+) -> usize
+    requires { ⌜ Rising 0 (now ends) m × (3 * m ≤ length (now coords)) × (3 * atMost m ≤ length (now points))
+        × (6 * atMost m ≤ length (now space)) × (4 * atMost m ≤ length (now out)) ⌝ }
+    ensures { λ r. ⌜ Segments 2 (now (out .entry))
+        (cellSegments (cutBy (frameOf plane) tol) (frameOf plane) (facesOf 3 (now (ends .entry)) (now (coords .entry))))
+        r (now (out .exit)) ⌝ }
+{
+    let mut k = 0;
+    let mut s = 0;
+    let mut i = 0;
+    while i < ends.len() {
+        let e = ends[i];
+        let at = 3 * s;
+        k = face_segments(&coords[at..], e - s, plane, tol, points, space, out, k);
+        s = e;
+        i += 1;
+    }
+    k
+}
+
+// One face of a cell: its segments, in the plane's own coordinates, after the `from` in out. Gives how many there
+// are then.
+pub fn face_segments(
+    poly: &[f64],
+    n: usize,
+    plane: Plane,
+    tol: f64,
+    points: &mut [f64],
+    space: &mut [f64],
+    out: &mut [f64],
+    from: usize,
+) -> usize
+    requires { ⌜ (3 * n ≤ length (now poly)) × (3 * atMost n ≤ length (now points))
+        × (6 * atMost n ≤ length (now space)) × (4 * (from + atMost n) ≤ length (now out)) ⌝ }
+    ensures { λ r. ⌜ Segments 2 (now (out .entry))
+        (segs 2 from (now (out .entry))
+        ++ faceSegments (cutBy (frameOf plane) tol) (frameOf plane) (rows 3 n (now (poly .entry))))
+        r (now (out .exit)) ⌝ }
+{
+    let origin = plane.origin;
+    let normal = plane.normal;
+    let cut = Cut {
+        origin: origin,
+        normal: normal,
+        tol: tol,
+    };
+    let k = plane_section_segments(poly, n, cut, points, space);
+    project_segments(space, k, plane, out, from)
+}
+
+// Projects k segments into the plane, after the `from` in out. Gives how many there are then.
+fn project_segments(space: &[f64], k: usize, plane: Plane, out: &mut [f64], from: usize) -> usize
+    requires { ⌜ (6 * k ≤ length (now space)) × (4 * (from + k) ≤ length (now out)) ⌝ }
+    ensures { λ r. ⌜ Segments 2 (now (out .entry))
+        (segs 2 from (now (out .entry)) ++ map (projectSeg (frameOf plane)) (segs 3 k (now (space .entry))))
+        r (now (out .exit)) ⌝ }
+{
+    let mut i = 0;
+    while i < k {
+        let j = 2 * (from + i);
+        put2(out, j, plane.project(point3(space, 2 * i)));
+        put2(out, j + 1, plane.project(point3(space, 2 * i + 1)));
+        i += 1;
+    }
+    from + k
+}
+
+// Intersection of a polygon of n corners with the cut: its segments, written to out. Gives how many there are.
+//
+// The polygon is clipped to one side of the cut, and the boundary edges that lie on the cut are kept. This
+// handles concave polygons too, and yields one segment per crossing interval.
+pub fn plane_section_segments(
+    poly: &[f64],
+    n: usize,
+    cut: Cut,
+    points: &mut [f64],
+    out: &mut [f64],
+) -> usize
+    requires { ⌜ (3 * n ≤ length (now poly)) × (3 * atMost n ≤ length (now points))
+        × (6 * atMost n ≤ length (now out)) ⌝ }
+    ensures { λ r. ⌜ Segments 3 (now (out .entry))
+        (planeSectionSegments (cut3 cut) (rows 3 n (now (poly .entry)))) r (now (out .exit)) ⌝ }
+{
+    if n < 3 {
+        return 0;
+    }
+    let side = kept_side(poly, n, cut);
+    match side {
+        Side::Above => section_on(poly, n, cut, 1.0, points, out),
+        Side::Below => section_on(poly, n, cut, -1.0, points, out),
+        Side::Neither => 0,
+    }
+}
+
+// The same for a polygon of at most four corners, with room of its own for the clipped points.
+pub fn section_small(poly: &[f64], n: usize, cut: Cut, out: &mut [f64]) -> usize
+    requires { ⌜ (n ≤ 4) × (3 * n ≤ length (now poly)) × (6 * atMost n ≤ length (now out)) ⌝ }
+    ensures { λ r. ⌜ Segments 3 (now (out .entry))
+        (planeSectionSegments (cut3 cut) (rows 3 n (now (poly .entry)))) r (now (out .exit)) ⌝ }
+{
+    let mut points = [0.0f64; 18];
+    plane_section_segments(poly, n, cut, &mut points, out)
+}
+
+// The same for a polygon of at most 256 corners.
+pub fn section_large(poly: &[f64], n: usize, cut: Cut, out: &mut [f64]) -> usize
+    requires { ⌜ (n ≤ 256) × (3 * n ≤ length (now poly)) × (6 * atMost n ≤ length (now out)) ⌝ }
+    ensures { λ r. ⌜ Segments 3 (now (out .entry))
+        (planeSectionSegments (cut3 cut) (rows 3 n (now (poly .entry)))) r (now (out .exit)) ⌝ }
+{
+    let mut points = [0.0f64; 1152];
+    plane_section_segments(poly, n, cut, &mut points, out)
+}
+
+// The side that holds the polygon's interior: above if any corner is, else below if any is.
+fn kept_side(poly: &[f64], n: usize, cut: Cut) -> Side
+    requires { ⌜ 3 * n ≤ length (now poly) ⌝ }
+    ensures { λ r. ⌜ r ≡ keptSide (cut3 cut) (rows 3 n (now (poly .entry))) ⌝ }
+{
+    let mut seen = false;
+    let mut i = 0;
+    while i < n {
+        let d = point3(poly, i).distance(cut.origin, cut.normal);
+        if d > cut.tol {
+            return Side::Above;
+        }
+        seen = or_below(seen, d, cut.tol);
+        i += 1;
+    }
+    if seen {
+        return Side::Below;
+    }
+    Side::Neither
+}
+
+// The segments of the polygon clipped to the side of this sign, written to out. Gives how many there are.
+fn section_on(
+    poly: &[f64],
+    n: usize,
+    cut: Cut,
+    sign: f64,
+    points: &mut [f64],
+    out: &mut [f64],
+) -> usize
+    requires { ⌜ (0 < n) × (3 * n ≤ length (now poly)) × (3 * atMost n ≤ length (now points))
+        × (6 * atMost n ≤ length (now out)) ⌝ }
+    ensures { λ r. ⌜ Segments 3 (now (out .entry)) (sectionOn (cut3 cut) sign (rows 3 n (now (poly .entry)))) r
+        (now (out .exit)) ⌝ }
+{
+    let tol2 = cut.tol * cut.tol;
+    let clipped = clip_polygon(poly, n, cut, sign, tol2, points);
+    let m = without_closing(points, clipped, tol2);
+    if m < 2 {
+        return 0;
+    }
+    segments(points, m, cut, tol2, out)
+}
+
+// The clipped points of the polygon, written to points. Gives how many there are.
+fn clip_polygon(poly: &[f64], n: usize, cut: Cut, sign: f64, tol2: f64, points: &mut [f64]) -> usize
+    requires { ⌜ (0 < n) × (3 * n ≤ length (now poly)) × (3 * atMost n ≤ length (now points)) ⌝ }
+    ensures { λ r. ⌜ Points 3 (now (points .entry))
+        (pushAll tol2 [] (clipSides (cut3 cut) sign (edges (rows 3 n (now (poly .entry)))))) r
+        (now (points .exit)) ⌝ }
+{
+    let mut a = point3(poly, 0);
+    let mut da = sign * a.distance(cut.origin, cut.normal);
+    let mut m = 0;
+    let mut i = 0;
+    while i < n {
+        let b = point3(poly, next_of(i, n));
+        let db = sign * b.distance(cut.origin, cut.normal);
+        m = push_clip(points, m, clip_edge(a, da, b, db, cut), tol2);
+        a = b;
+        da = db;
+        i += 1;
+    }
+    m
+}
+
+// What the edge from a to b gives, by the signed distances da and db.
+fn clip_edge(a: Vec3, da: f64, b: Vec3, db: f64, cut: Cut) -> Clip
+    ensures { λ r. ⌜ points3 r ≡ clipEdge (cut3 cut) (vec3 a) da (vec3 b) db ⌝ }
+{
+    let low = -cut.tol;
+    if da >= low {
+        if db >= low {
+            return Clip::One(b);
+        }
+        return Clip::One(plane_intersection(a, da, b, db, cut));
+    }
+    if db >= low {
+        return Clip::Two(plane_intersection(a, da, b, db, cut), b);
+    }
+    Clip::Nothing
+}
+
+// Where the edge from a to b meets the cut, moved onto the cut to remove the interpolation error.
+fn plane_intersection(a: Vec3, da: f64, b: Vec3, db: f64, cut: Cut) -> Vec3
+    ensures { λ r. ⌜ vec3 r ≡ planeIntersection (cut3 cut) (vec3 a) da (vec3 b) db ⌝ }
+{
+    let t = ratio(da, db);
+    let p = a.plus(b.minus(a).scaled(t));
+    let d = p.distance(cut.origin, cut.normal);
+    let n = cut.normal;
+    p.minus(n.scaled(d))
+}
+
+// Pushes the points of an edge after the m there are. Gives how many there are then.
+fn push_clip(points: &mut [f64], m: usize, clip: Clip, tol2: f64) -> usize
+    requires { ⌜ 3 * (m + length (points3 clip)) ≤ length (now points) ⌝ }
+    ensures { λ r. ⌜ Points 3 (now (points .entry))
+        (pushAll tol2 (rows 3 m (now (points .entry))) (points3 clip)) r (now (points .exit)) ⌝ }
+{
+    match clip {
+        Clip::Nothing => m,
+        Clip::One(p) => push_unique(points, m, p, tol2),
+        Clip::Two(p, q) => {
+            let k = push_unique(points, m, p, tol2);
+            push_unique(points, k, q, tol2)
+        }
+    }
+}
+
+// Pushes p after the m points there are, unless it is near the last. Gives how many there are then.
+fn push_unique(points: &mut [f64], m: usize, p: Vec3, tol2: f64) -> usize
+    requires { ⌜ 3 * (m + 1) ≤ length (now points) ⌝ }
+    ensures { λ r. ⌜ Points 3 (now (points .entry)) (pushUnique tol2 (rows 3 m (now (points .entry))) (vec3 p))
+        r (now (points .exit)) ⌝ }
+{
+    if m == 0 {
+        put3(points, m, p);
+        return m + 1;
+    }
+    if point3(points, m - 1).dist2(p) > tol2 {
+        put3(points, m, p);
+        return m + 1;
+    }
+    m
+}
+
+// How many of the m points are left without the closing duplicate of the cyclic walk.
+fn without_closing(points: &[f64], m: usize, tol2: f64) -> usize
+    requires { ⌜ 3 * m ≤ length (now points) ⌝ }
+    ensures { λ r. ⌜ (rows 3 r (now (points .entry)) ≡ withoutClosing tol2 (rows 3 m (now (points .entry)))) ×
+        (r ≤ m) ⌝ }
+{
+    if m <= 1 {
+        return m;
+    }
+    if point3(points, 0).dist2(point3(points, m - 1)) <= tol2 {
+        return m - 1;
+    }
+    m
+}
+
+// The edges of m clipped points that lie on the cut, each once, written to out. Gives how many there are.
+fn segments(points: &[f64], m: usize, cut: Cut, tol2: f64, out: &mut [f64]) -> usize
+    requires { ⌜ (0 < m) × (3 * m ≤ length (now points)) × (6 * m ≤ length (now out)) ⌝ }
+    ensures { λ r. ⌜ Segments 3 (now (out .entry))
+        (pushSegments (cut3 cut) tol2 [] (edges (rows 3 m (now (points .entry))))) r (now (out .exit)) ⌝ }
+{
+    let mut a = point3(points, 0);
+    let mut k = 0;
+    let mut i = 0;
+    while i < m {
+        let b = point3(points, next_of(i, m));
+        k = push_segment(out, k, a, b, cut, tol2);
+        a = b;
+        i += 1;
+    }
+    k
+}
+
+// Pushes the segment from a to b after the k there are, if it lies on the cut and is no duplicate. Gives how many
+// there are then.
+fn push_segment(out: &mut [f64], k: usize, a: Vec3, b: Vec3, cut: Cut, tol2: f64) -> usize
+    requires { ⌜ 6 * (k + 1) ≤ length (now out) ⌝ }
+    ensures { λ r. ⌜ Segments 3 (now (out .entry))
+        (pushSegment (cut3 cut) tol2 (segs 3 k (now (out .entry))) (seg (vec3 a) (vec3 b))) r
+        (now (out .exit)) ⌝ }
+{
+    if lies_on(a, b, cut, tol2) {
+        if duplicate(out, k, a, b, tol2) {
+            return k;
+        }
+        put3(out, 2 * k, a);
+        put3(out, 2 * k + 1, b);
+        return k + 1;
+    }
+    k
+}
+
+// Whether a and b are on the cut and apart.
+fn lies_on(a: Vec3, b: Vec3, cut: Cut, tol2: f64) -> bool
+    ensures { λ r. ⌜ r ≡ liesOn (cut3 cut) tol2 (seg (vec3 a) (vec3 b)) ⌝ }
+{
+    let da = a.distance(cut.origin, cut.normal);
+    let db = b.distance(cut.origin, cut.normal);
+    if both_at_most(absolute(da), absolute(db), cut.tol) {
+        return a.dist2(b) > tol2;
+    }
+    false
+}
+
+// Whether one of the k segments there are has its ends near a and b, either way round.
+fn duplicate(out: &[f64], k: usize, a: Vec3, b: Vec3, tol2: f64) -> bool
+    requires { ⌜ 6 * k ≤ length (now out) ⌝ }
+    ensures { λ r. ⌜ r ≡ duplicate tol2 (segs 3 k (now (out .entry))) (seg (vec3 a) (vec3 b)) ⌝ }
+{
+    let mut i = 0;
+    while i < k {
+        if alike(point3(out, 2 * i), point3(out, 2 * i + 1), a, b, tol2) {
+            return true;
+        }
+        i += 1;
+    }
+    false
+}
+
+// Whether the ends p and q are near a and b, either way round.
+fn alike(p: Vec3, q: Vec3, a: Vec3, b: Vec3, tol2: f64) -> bool
+    ensures { λ r. ⌜ r ≡ alike tol2 (seg (vec3 p) (vec3 q)) (seg (vec3 a) (vec3 b)) ⌝ }
+{
+    if both_at_most(p.dist2(a), q.dist2(b), tol2) {
+        return true;
+    }
+    both_at_most(p.dist2(b), q.dist2(a), tol2)
+}
