@@ -1,0 +1,237 @@
+-- What welding lists: edges between two of the points, smaller first, and none twice; and which. Assumes nothing.
+use mathlib.Core.Path.{_≡_, refl, ap, sym, _∙_}
+use mathlib.Core.List.{List, [], _∷_, _++_}
+use mathlib.Core.Bool.{Bool, true, false, cond, _&&_, _||_}
+use Prim.Native.Nat.{ℕ, zero, suc, _+_, _*_, _≤_, _<_, min, max}
+use mathlib.Core.Logic.{_⊎_, inl, inr, ⊎-elim}
+use native.Mathlib.Nat.{not-suc-le-zero, eq-or-lt-of-le}
+use native.Mathlib.Omega.{arith}
+use lib.Dec.{eqb, ltb}
+use lib.Ieee.{Float, le}
+use lib.ListN.{length, getD, length-append}
+use borrow.Author.Tests.{eq-eqb, eqb-true, eqb-false, ltb-true}
+use Rattle.vector.specs.Vector.{Vector, dist2}
+use Rattle.vector.specs.Rows.{Seg, seg}
+use Rattle.weld.specs.Weld.{Edge, edge, lo, hi, same, between, listed, find, push, pointsFrom, becomes, addEdge, edgesFrom, weldedPoints, listedEdges}
+
+-- each edge has its smaller point first
+abbrev pub Simple : List Edge → Type 0
+Simple es = (k : ℕ) → k < length es → lo (getD es k (edge 0 0)) < hi (getD es k (edge 0 0))
+
+-- each edge is between two of n points
+abbrev pub Within : List Edge → ℕ → Type 0
+Within es n = (k : ℕ) → k < length es → (lo (getD es k (edge 0 0)) < n) × (hi (getD es k (edge 0 0)) < n)
+
+-- no edge stands twice
+abbrev pub Distinct : List Edge → Type 0
+Distinct es = (i j : ℕ) → i < length es → j < length es → getD es i (edge 0 0) ≡ getD es j (edge 0 0) → i ≡ j
+
+-- ---- the same edge
+pub same-eq : (e f : Edge) → same e f ≡ true → e ≡ f
+same-eq (edge a b) (edge c d) h = by-tests (eqb a c) (eqb b d) (eqb-true a c) (eqb-true b d) h
+  where
+    by-tests : (s t : Bool) → (s ≡ true → a ≡ c) → (t ≡ true → b ≡ d) → s && t ≡ true → edge a b ≡ edge c d
+    by-tests true true x y r = rw (x refl, y refl)
+    by-tests true false x y r = let z : _≡_ {A = ℕ} 0 1 = cc in absurd (omega arith)
+    by-tests false t x y r = let z : _≡_ {A = ℕ} 0 1 = cc in absurd (omega arith)
+
+pub same-self : (e : Edge) → same e e ≡ true
+same-self (edge a b) = rw (eq-eqb a a refl, eq-eqb b b refl)
+
+pub between-sym : (a b : ℕ) → between a b ≡ between b a
+between-sym a b =
+    let x : min a b ≡ min b a = omega arith in
+    let y : max a b ≡ max b a = omega arith in
+    rw (x, y)
+
+-- ---- lists of edges
+pub listed-at : (es : List Edge) (k : ℕ) → k < length es → listed (getD es k (edge 0 0)) es ≡ true
+unfolding listed
+listed-at [] k h = absurd (not-suc-le-zero h)
+listed-at (e ∷ es) zero h = rw (same-self e)
+listed-at (e ∷ es) (suc k) h = let i = listed-at es k (omega arith) in rw i (or-true (same (getD es k (edge 0 0)) e))
+  where
+    or-true : (b : Bool) → (b || true) ≡ true
+    or-true true = refl
+    or-true false = refl
+
+pub listed-snoc : (e f : Edge) (es : List Edge) → listed e (es ++ f ∷ []) ≡ (listed e es || same e f)
+unfolding listed
+listed-snoc e f [] = or-false (same e f)
+  where
+    or-false : (b : Bool) → (b || false) ≡ b
+    or-false true = refl
+    or-false false = refl
+listed-snoc e f (g ∷ es) = rw (listed-snoc e f es) (assoc (same e g) (listed e es) (same e f))
+  where
+    assoc : (x y z : Bool) → (x || (y || z)) ≡ ((x || y) || z)
+    assoc true y z = refl
+    assoc false y z = refl
+
+-- a property of every place of a list, and of one more
+snoc-at : (P : Edge → Type 0) (es : List Edge) (e : Edge) → ((k : ℕ) → k < length es → P (getD es k (edge 0 0))) → P e
+    → (k : ℕ) → k < length (es ++ e ∷ []) → P (getD (es ++ e ∷ []) k (edge 0 0))
+snoc-at P [] e f h zero l = h
+snoc-at P [] e f h (suc k) l = absurd (omega arith)
+snoc-at P (g ∷ es) e f h zero l = f 0 (omega arith)
+snoc-at P (g ∷ es) e f h (suc k) l = snoc-at P es e (λ j m. f (suc j) (omega arith)) h k (omega arith)
+
+snoc-old : (es : List Edge) (e : Edge) (k : ℕ) → k < length es → getD (es ++ e ∷ []) k (edge 0 0) ≡ getD es k (edge 0 0)
+snoc-old [] e k h = absurd (not-suc-le-zero h)
+snoc-old (f ∷ es) e zero h = refl
+snoc-old (f ∷ es) e (suc k) h = snoc-old es e k (omega arith)
+
+snoc-new : (es : List Edge) (e : Edge) (k : ℕ) → k ≡ length es → getD (es ++ e ∷ []) k (edge 0 0) ≡ e
+snoc-new [] e k h = rw h
+snoc-new (f ∷ es) e zero h = absurd (omega arith)
+snoc-new (f ∷ es) e (suc k) h = snoc-new es e k (omega arith)
+
+distinct-snoc : (es : List Edge) (e : Edge) → Distinct es → ((k : ℕ) → k < length es → getD es k (edge 0 0) ≡ e → ⊥)
+    → Distinct (es ++ e ∷ [])
+distinct-snoc es e d n i j x y q = by-sides (last-or-old i x) (last-or-old j y)
+  where
+    last-or-old : (k : ℕ) → k < length (es ++ e ∷ []) → (k < length es) ⊎ (k ≡ length es)
+    last-or-old k h =
+        let m : k ≤ length es = omega (arith, length-append es (e ∷ [])) in
+        ⊎-elim (λ x. inr x) (λ x. inl x) (eq-or-lt-of-le m)
+
+    by-sides : (i < length es) ⊎ (i ≡ length es) → (j < length es) ⊎ (j ≡ length es) → i ≡ j
+    by-sides (inl x) (inl y) = d i j x y (sym (snoc-old es e i x) ∙ q ∙ snoc-old es e j y)
+    by-sides (inl x) (inr y) = absurd (n i x (sym (snoc-old es e i x) ∙ q ∙ snoc-new es e j y))
+    by-sides (inr x) (inl y) = absurd (n j y (sym (snoc-old es e j y) ∙ sym q ∙ snoc-new es e i x))
+    by-sides (inr x) (inr y) = omega arith
+
+-- ---- one more edge
+module _ (a b : ℕ) (es : List Edge) where
+  add-all : (P : Edge → Type 0) → ((k : ℕ) → k < length es → P (getD es k (edge 0 0))) → ((a ≡ b → ⊥) → P (between a b))
+      → (k : ℕ) → k < length (addEdge a b es) → P (getD (addEdge a b es) k (edge 0 0))
+  unfolding addEdge
+  add-all P f h = by-tests (eqb a b) (listed (between a b) es) (eqb-false a b)
+    where
+      by-tests : (s t : Bool) → (s ≡ false → a ≡ b → ⊥)
+          → (k : ℕ) → k < length (cond (s || t) es (es ++ between a b ∷ [])) → P
+          (getD (cond (s || t) es (es ++ between a b ∷ [])) k (edge 0 0))
+      by-tests true t x = f
+      by-tests false true x = f
+      by-tests false false x = snoc-at P es (between a b) f (h (x refl))
+
+  add-length : length (addEdge a b es) ≤ length es + 1
+  unfolding addEdge
+  add-length = by-test (eqb a b || listed (between a b) es)
+    where
+      by-test : (t : Bool) → length (cond t es (es ++ between a b ∷ [])) ≤ length es + 1
+      by-test true = omega arith
+      by-test false = omega (arith, length-append es (between a b ∷ []))
+
+  listed-not-at : (e : Edge) → listed e es ≡ false → (k : ℕ) → k < length es → getD es k (edge 0 0) ≡ e → ⊥
+  listed-not-at e h k l q = let x = listed-at es k l in let z : _≡_ {A = ℕ} 0 1 = cc in omega arith
+
+  add-distinct : Distinct es → Distinct (addEdge a b es)
+  unfolding addEdge
+  add-distinct d = by-tests (eqb a b) (listed (between a b) es) refl
+    where
+      by-tests : (s t : Bool) → listed (between a b) es ≡ t → Distinct (cond (s || t) es (es ++ between a b ∷ []))
+      by-tests true t x = d
+      by-tests false true x = d
+      by-tests false false x = distinct-snoc es (between a b) d (listed-not-at (between a b) x)
+
+-- ---- all edges
+pub edges-simple : (l es : List Edge) → Simple es → Simple (edgesFrom l es)
+unfolding edgesFrom
+edges-simple [] es s = s
+edges-simple (edge a b ∷ l) es s = edges-simple l (addEdge a b es) (add-all a b es (λ e. lo e < hi e) s (λ d. apart a b d))
+  where
+    apart : (a b : ℕ) → (a ≡ b → ⊥) → min a b < max a b
+    apart a b d = omega (arith, d)
+
+pub edges-distinct : (l es : List Edge) → Distinct es → Distinct (edgesFrom l es)
+unfolding edgesFrom
+edges-distinct [] es d = d
+edges-distinct (edge a b ∷ l) es d = edges-distinct l (addEdge a b es) (add-distinct a b es d)
+
+edges-within : (l es : List Edge) (n : ℕ) → Within l n → Within es n → Within (edgesFrom l es) n
+unfolding edgesFrom
+edges-within [] es n w v = v
+edges-within (edge a b ∷ l) es n w v =
+    let o = w 0 (omega arith) in
+    edges-within l (addEdge a b es) n (λ k h. w (suc k) (omega arith))
+    (add-all a b es (λ e. (lo e < n) × (hi e < n)) v (λ d. (omega arith, omega arith)))
+
+edges-few : (l es : List Edge) → length (edgesFrom l es) ≤ length l + length es
+unfolding edgesFrom
+edges-few [] es = omega arith
+edges-few (edge a b ∷ l) es = omega (arith, edges-few l (addEdge a b es), add-length a b es)
+
+-- ---- the points that ends become
+find-le : (p : Vector) (t : Float) (qs : List Vector) → find p t qs ≤ length qs
+unfolding find
+find-le p t [] = omega arith
+find-le p t (q ∷ qs) = by-test (le (dist2 q p) t) (find-le p t qs)
+  where
+    by-test : (b : Bool) → find p t qs ≤ length qs → cond b zero (suc (find p t qs)) ≤ suc (length qs)
+    by-test true h = omega arith
+    by-test false h = omega arith
+
+-- of n points and the place f that an end finds, m points result: the end's point is among them, and there is at most one more
+pub record Pushes (f n m : ℕ) : Type 0 where
+  pub more : n ≤ m
+  pub one : m ≤ n + 1
+  pub among : f < m
+
+pub pushes : (p : Vector) (t : Float) (qs : List Vector) → Pushes (find p t qs) (length qs) (length (push p t qs))
+unfolding push
+pushes p t qs = by-test (ltb (find p t qs) (length qs)) (ltb-true (find p t qs) (length qs)) (find-le p t qs)
+  where
+    by-test : (b : Bool) → (b ≡ true → find p t qs < length qs) → find p t qs ≤ length qs
+        → Pushes (find p t qs) (length qs) (length (cond b qs (qs ++ p ∷ [])))
+    by-test true e h = let x = e refl in omega arith
+    by-test false e h = omega (arith, length-append qs (p ∷ []))
+
+points-more : (t : Float) (ss : List Seg) (qs : List Vector) → length qs ≤ length (pointsFrom t ss qs)
+unfolding pointsFrom
+points-more t [] qs = omega arith
+points-more t (seg p q ∷ ss) qs =
+    let a = pushes p t qs in
+    let b = pushes q t (push p t qs) in
+    omega (arith, points-more t ss (push q t (push p t qs)))
+
+points-few : (t : Float) (ss : List Seg) (qs : List Vector) → length (pointsFrom t ss qs) ≤ 2 * length ss + length qs
+unfolding pointsFrom
+points-few t [] qs = omega arith
+points-few t (seg p q ∷ ss) qs =
+    let a = pushes p t qs in
+    let b = pushes q t (push p t qs) in
+    omega (arith, points-few t ss (push q t (push p t qs)))
+
+becomes-within : (t : Float) (ss : List Seg) (qs : List Vector) → Within (becomes t ss qs) (length (pointsFrom t ss qs))
+unfolding becomes pointsFrom
+becomes-within t [] qs k h = absurd (not-suc-le-zero h)
+becomes-within t (seg p q ∷ ss) qs zero h =
+    let a = pushes p t qs in
+    let b = pushes q t (push p t qs) in
+    let m = points-more t ss (push q t (push p t qs)) in
+    (omega arith, omega arith)
+becomes-within t (seg p q ∷ ss) qs (suc k) h = becomes-within t ss (push q t (push p t qs)) k (omega arith)
+
+becomes-length : (t : Float) (ss : List Seg) (qs : List Vector) → length (becomes t ss qs) ≡ length ss
+unfolding becomes
+becomes-length t [] qs = refl
+becomes-length t (seg p q ∷ ss) qs = ap suc (becomes-length t ss (push q t (push p t qs)))
+
+-- ---- of a list of segments
+module _ (t : Float) (ss : List Seg) where
+  pub listed-simple : Simple (listedEdges t ss)
+  listed-simple = edges-simple (becomes t ss []) [] (λ k h. absurd (not-suc-le-zero h))
+
+  pub listed-distinct : Distinct (listedEdges t ss)
+  listed-distinct = edges-distinct (becomes t ss []) [] (λ i j h. absurd (not-suc-le-zero h))
+
+  pub listed-within : Within (listedEdges t ss) (length (weldedPoints t ss))
+  listed-within =
+      edges-within (becomes t ss []) [] (length (weldedPoints t ss)) (becomes-within t ss []) (λ k h. absurd (not-suc-le-zero h))
+
+  pub listed-few : length (listedEdges t ss) ≤ length ss
+  listed-few = omega (arith, edges-few (becomes t ss []) [], becomes-length t ss [])
+
+  pub points-at-most : length (weldedPoints t ss) ≤ 2 * length ss
+  points-at-most = omega (arith, points-few t ss [])

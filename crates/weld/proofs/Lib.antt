@@ -1,0 +1,5 @@
+pub mod Edges
+pub mod Points
+pub mod Lists
+pub mod Welding
+pub mod Worked

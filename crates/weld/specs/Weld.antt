@@ -1,0 +1,75 @@
+-- Welding: the points that the ends of segments become, and the edges between them. Definitions only.
+use mathlib.Core.List.{List, [], _∷_, _++_}
+use mathlib.Core.Bool.{Bool, true, false, _&&_, _||_, cond}
+use Prim.Native.Nat.{ℕ, zero, suc, min, max}
+use lib.Dec.{eqb, ltb}
+use lib.ListN.{length}
+use lib.Ieee.{Float, le, add, sub, mul}
+use Rattle.vector.specs.Vector.{Vector, dist2}
+use Rattle.vector.specs.Rows.{Seg, seg}
+
+-- ---- the welded point of document 01
+
+-- The place of the first point whose squared distance to p is at most t; the number of points where there is none. A NaN distance is at
+-- most nothing.
+unfoldable pub find : Vector → Float → List Vector → ℕ
+unfolding add sub mul le
+find p t [] = zero
+find p t (q ∷ qs) = let r = suc (find p t qs) in cond (le (dist2 q p) t) zero r
+
+-- The points after p has become one of them: p is a new point only where no point is near.
+unfoldable pub push : Vector → Float → List Vector → List Vector
+unfolding find
+push p t qs = cond (ltb (find p t qs) (length qs)) qs (qs ++ p ∷ [])
+
+-- all points, those of qs first
+unfoldable pub pointsFrom : Float → List Seg → List Vector → List Vector
+unfolding push
+pointsFrom t [] qs = qs
+pointsFrom t (seg p q ∷ ss) qs = pointsFrom t ss (push q t (push p t qs))
+
+-- ---- the edge of document 01: two points, smaller first
+pub data Edge : Type 0 where
+  edge : ℕ → ℕ → Edge
+
+abbrev pub lo : Edge → ℕ
+lo (edge a b) = a
+
+abbrev pub hi : Edge → ℕ
+hi (edge a b) = b
+
+abbrev pub same : Edge → Edge → Bool
+same (edge a b) (edge c d) = eqb a c && eqb b d
+
+-- the edge between two points
+abbrev pub between : ℕ → ℕ → Edge
+between a b = edge (min a b) (max a b)
+
+-- whether an edge is in a list
+unfoldable pub listed : Edge → List Edge → Bool
+listed e [] = false
+listed e (f ∷ fs) = same e f || listed e fs
+
+-- The two points that the ends of each segment become, first end first, where qs are the points before.
+unfoldable pub becomes : Float → List Seg → List Vector → List Edge
+unfolding push
+becomes t [] qs = []
+becomes t (seg p q ∷ ss) qs = edge (find p t qs) (find q t (push p t qs)) ∷ becomes t ss (push q t (push p t qs))
+
+-- ends that weld together give no edge; an edge is listed once
+unfoldable pub addEdge : ℕ → ℕ → List Edge → List Edge
+unfolding listed
+addEdge a b es = cond (eqb a b || listed (between a b) es) es (es ++ between a b ∷ [])
+
+-- all edges, those of es first
+unfoldable pub edgesFrom : List Edge → List Edge → List Edge
+unfolding addEdge
+edgesFrom [] es = es
+edgesFrom (edge a b ∷ l) es = edgesFrom l (addEdge a b es)
+
+-- ---- a list of segments, welded within the squared tolerance t
+abbrev pub weldedPoints : Float → List Seg → List Vector
+weldedPoints t ss = pointsFrom t ss []
+
+abbrev pub listedEdges : Float → List Seg → List Edge
+listedEdges t ss = edgesFrom (becomes t ss []) []
