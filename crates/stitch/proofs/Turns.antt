@@ -1,0 +1,164 @@
+-- The turn at an edge: what ending its walk needs, and what the turn leaves. Assumes nothing.
+use mathlib.Core.Path.{_≡_, refl, ap, sym, _∙_}
+use mathlib.Core.List.{List, [], _∷_}
+use mathlib.Core.Bool.{Bool, true, false}
+use Prim.Native.Nat.{ℕ, zero, suc, _+_, _≤_, _<_}
+use native.Mathlib.Nat.{not-suc-le-zero}
+use native.Mathlib.Omega.{arith}
+use lib.Dec.{eqb}
+use lib.Ieee.{Float, lt}
+use lib.ListN.{length, getD, set, take, length-take}
+use Rattle.vector.specs.Number.{abs}
+use Rattle.vector.specs.Vector.{Vector}
+use Rattle.vector.specs.Rows.{rows}
+use Rattle.weld.specs.Weld.{Edge, edge, lo, hi}
+use Rattle.weld.specs.Code.{edgesOf}
+use Rattle.weld.proofs.Edges.{Within}
+use Rattle.weld.proofs.Lists.{edges-length, edges-getD}
+use Rattle.stitch.specs.declared.Next.{Next}
+use Rattle.stitch.specs.declared.Next.the-variants as next
+use Rattle.stitch.specs.declared.Tally.{Tally}
+use Rattle.stitch.specs.Walk.{edgeAt, other, nextEdge, Walk, rest, walkFrom}
+use Rattle.stitch.specs.Stitch.{signedArea, kindOf, kind, turned}
+use Rattle.stitch.specs.Code.{Ends, Ready, Went, Below, edgesIn, Finished, Finishing, Spare, Counting, Turn}
+use Rattle.stitch.proofs.Junction.{next-free}
+use Rattle.stitch.proofs.Once.{walk-left}
+use Rattle.stitch.proofs.Joined.{Sound, walk-sound, sound-three}
+use Rattle.stitch.proofs.Loops.{walk-edges}
+use Rattle.stitch.proofs.Buffers.{end-below}
+
+-- ---- a walk's nodes are points
+below-cons : (a : ℕ) (l : List ℕ) (n : ℕ) → a < n → Below n l → Below n (a ∷ l)
+below-cons a l n h b zero k = h
+below-cons a l n h b (suc j) k = b j (omega arith)
+
+other-below : (c n : ℕ) (e : Edge) → lo e < n → hi e < n → other c e < n
+other-below c n (edge a b) h k = end-below (eqb a c) a b (other c (edge a b)) n refl h k
+
+module _ (ps : List Vector) (es : List Edge) (n : ℕ) (w : Within es n) where
+  rest-below : (d : ℕ) (b : Bool) (choice : Next) (s p c : ℕ) (us : List Bool) → choice ≡ nextEdge ps es us p c → c < n
+      → Below n (rest ps es d b choice s c us .nodes)
+  unfolding rest
+  rest-below zero b choice s p c us e h = λ k l. absurd (not-suc-le-zero l)
+  rest-below (suc d) true choice s p c us e h = λ k l. absurd (not-suc-le-zero l)
+  rest-below (suc d) false next.Nothing s p c us e h = below-cons c [] n h (λ k l. absurd (not-suc-le-zero l))
+  rest-below (suc d) false (next.Edge k) s p c us e h =
+      let f = next-free ps es us p c k (sym e) in
+      let i = w k (f .inside) in
+      let c′ = other c (edgeAt es k) in
+      let us′ = set us k true in
+      below-cons c (rest ps es d (eqb c′ s) (nextEdge ps es us′ c c′) s c′ us′ .nodes) n h
+      (rest-below d (eqb c′ s) (nextEdge ps es us′ c c′) s c c′ us′ refl (other-below c n (edgeAt es k) (i .0) (i .1)))
+
+  walk-below : (k : ℕ) (us : List Bool) → k < length es → Below n (walkFrom ps es k us .nodes)
+  walk-below k us h =
+      let a = lo (edgeAt es k) in
+      let b = hi (edgeAt es k) in
+      let us′ = set us k true in
+      below-cons a (rest ps es (length es) (eqb b a) (nextEdge ps es us′ a b) a b us′ .nodes) n (w k h .0)
+      (rest-below (length es) (eqb b a) (nextEdge ps es us′ a b) a a b us′ refl (w k h .1))
+
+-- ---- a mark read with another default
+pub read-mark : (us : List Bool) (k : ℕ) → k < length us → getD us k false ≡ getD us k true
+read-mark [] k h = absurd (not-suc-le-zero h)
+read-mark (u ∷ us) zero h = refl
+read-mark (u ∷ us) (suc k) h = read-mark us k (omega arith)
+
+ends-within : (n : ℕ) (zs : List Float) (xs ys : List ℕ) → Ends n zs xs ys → Within (edgesOf xs ys) n
+ends-within n zs xs ys e k h =
+    let m = edges-length xs ys (e .same) in
+    rw (edges-getD xs ys k (e .same)) (e .within k (omega arith))
+
+module _ (n : ℕ) (zs : List Float) (xs ys : List ℕ) (us : List Bool) (k : ℕ) (t : Tally) (walked nodes ends : List ℕ)
+    (ready : Ready n zs xs ys us) (spare : Spare (edgesOf xs ys) walked nodes ends) (counting : Counting t us)
+    (inside : k < length xs) (free : getD us k true ≡ false) where
+  abbrev w : Walk
+  w = walkFrom (rows 2 n zs) (edgesOf xs ys) k us
+
+  count : length (edgesOf xs ys) ≡ length xs
+  count = edges-length xs ys (ready .ends .same)
+
+  marks : length us ≡ length (edgesOf xs ys)
+  marks = ready .marks ∙ sym count
+
+  sound : Sound (edgesOf xs ys) w
+  sound = walk-sound (rows 2 n zs) (edgesOf xs ys) (spare .simple) k us free (let m = count in omega arith) marks
+
+  -- its edges were unused
+  left : t .nodes + t .flat + t .opened + length (w .edges) ≤ length us
+  left = let a = walk-left (rows 2 n zs) (edgesOf xs ys) k us free in let b = counting .left in omega arith
+
+  few-nodes : length (w .nodes) ≤ suc (length (w .edges))
+  few-nodes = by-case (w .closed) (walk-edges (edgesOf xs ys) w sound)
+    where
+      by-case : (b : Bool) → edgesIn b (length (w .nodes)) ≡ length (w .edges) → length (w .nodes) ≤ suc (length (w .edges))
+      by-case true e = omega arith
+      by-case false e = omega arith
+
+  closed-nodes : w .closed ≡ true → length (w .nodes) ≡ length (w .edges)
+  closed-nodes c = ap (λ (b : Bool). edgesIn b (length (w .nodes))) (sym c) ∙ walk-edges (edgesOf xs ys) w sound
+
+  -- three edges more for one loop more
+  room-for-end : w .closed ≡ true → t .loops < length ends
+  room-for-end c =
+      let three = sound-three (edgesOf xs ys) (spare .simple) (spare .distinct) w sound c in
+      let e = closed-nodes c in
+      let l = left in
+      let m = marks in
+      omega (arith, counting .three, spare .ends-room)
+
+  -- where the walk is a loop there is room for its nodes and its end, and it has three edges at least
+  pub record Roomy : Type 0 where
+    pub for-nodes : t .nodes + length (w .edges) ≤ length nodes
+    pub for-end : t .loops < length ends
+    pub three : 3 ≤ length (w .edges)
+    pub same : length (w .nodes) ≡ length (w .edges)
+
+  pub loop-room : w .closed ≡ true → Roomy
+  loop-room c =
+      let e = closed-nodes c in
+      let l = left in
+      let m = marks in
+      record {
+        for-nodes = omega (arith, spare .nodes-room);
+        for-end = room-for-end c;
+        three = omega (arith, sound-three (edgesOf xs ys) (spare .simple) (spare .distinct) w sound c);
+        same = e;
+      }
+
+  module _ (nodes-walked edges-walked : ℕ) (closed : Bool) (us′ : List Bool) (buffer : List ℕ)
+      (went : Went w nodes-walked edges-walked closed us′ buffer) where
+    pub walked-fits : nodes-walked ≤ length buffer
+    walked-fits = let a = ap length (went .nodes-are) in let b = length-take nodes-walked buffer in let c = went .node-count in omega arith
+
+    pub walked-count : nodes-walked ≡ length (take nodes-walked buffer)
+    walked-count = went .node-count ∙ sym (ap length (went .nodes-are))
+
+    pub finishing : Finishing n zs (take nodes-walked buffer) closed t nodes ends
+    finishing =
+        let l = left in
+        let f = few-nodes in
+        let m = marks in
+        rw (went .nodes-are, went .closed-is)
+        (record {
+          room = ready .ends .room;
+          some = omega arith;
+          below = walk-below (rows 2 n zs) (edgesOf xs ys) n (ends-within n zs xs ys (ready .ends)) k us (let o = count in omega arith);
+          small = omega (arith, spare .few);
+          nodes-room = λ c. (let e = closed-nodes c in omega (arith, spare .nodes-room));
+          ends-room = room-for-end;
+        })
+
+    pub turn-free : (tol2 : Float) (r : Tally) (nodes′ ends′ : List ℕ)
+        → Finished (kindOf closed (lt tol2 (abs (signedArea (rows 2 n zs) (take nodes-walked buffer)))))
+        (turned (rows 2 n zs) (take nodes-walked buffer))
+        (edgesIn closed (length (take nodes-walked buffer))) t nodes ends r nodes′ ends′
+        → Turn (rows 2 n zs) (edgesOf xs ys) tol2 k (getD us k true) us t nodes ends us′ r nodes′ ends′
+    unfolding kind
+    turn-free tol2 r nodes′ ends′ f =
+        let e = walk-edges (edgesOf xs ys) w sound in
+        rw free (went .used-are, rw (← e) (rw (went .nodes-are, went .closed-is) at f))
+
+pub turn-used : (ps : List Vector) (es : List Edge) (tol2 : Float) (k : ℕ) (us : List Bool) (t : Tally) (nodes ends : List ℕ)
+    → getD us k true ≡ true → Turn ps es tol2 k (getD us k true) us t nodes ends us t nodes ends
+turn-used ps es tol2 k us t nodes ends e = rw e (refl, refl, refl, refl)

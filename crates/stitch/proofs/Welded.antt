@@ -1,0 +1,164 @@
+-- From welding to the walks, and from the walks to the answer. Assumes nothing.
+use mathlib.Core.Path.{_≡_, refl, ap, sym, _∙_, subst}
+use mathlib.Core.List.{List, [], _∷_, _++_, append-assoc}
+use mathlib.Core.Bool.{Bool, false}
+use Prim.Native.Nat.{ℕ, zero, suc, _+_, _*_, _-_, _≤_, _<_}
+use native.Mathlib.Nat.{not-suc-le-zero, le-of-suc-le-suc}
+use native.Mathlib.Omega.{arith}
+use lib.Ieee.{Float}
+use lib.ListN.{length, take, drop, replicate, length-replicate, take-append-drop}
+use lib.Seq.{length-take-le, getD-take, take-at, take-append-seam, drop-append-seam}
+use Rattle.vector.specs.Rows.{Seg, rows, segs, over}
+use Rattle.weld.specs.Weld.{weldedPoints, listedEdges}
+use Rattle.weld.specs.Code.{edgesOf, Welds}
+use Rattle.weld.proofs.Edges.{listed-simple, listed-distinct}
+use Rattle.weld.proofs.Welding.{edges-exact, points-counted, edges-counted}
+use Rattle.stitch.specs.declared.Tally.{Tally}
+use Rattle.stitch.specs.declared.Stitched.{Stitched}
+use Rattle.stitch.specs.Walk.{walks}
+use Rattle.stitch.specs.Stitch.{loops, countsOf, flatten, endsFrom, Answer, stitchedWithin}
+use Rattle.stitch.specs.Claim.{Claim}
+use Rattle.stitch.specs.Code.{Ready, Spare, Wrote, Lent, Gave, cut, answerIn, Stitches}
+use Rattle.stitch.proofs.Claim.{claim}
+use Rattle.stitch.proofs.Stitching.{ends-length}
+
+-- fresh marks, as many as there are edges
+pub fresh-part : (n k : ℕ) (us : List Bool) → us ≡ replicate n false → k ≤ n → take k us ≡ replicate k false
+fresh-part n k us e h = ap (take k) e ∙ part n k h
+  where
+    part : (n k : ℕ) → k ≤ n → take k (replicate n false) ≡ replicate k false
+    part n zero h = refl
+    part zero (suc k) h = absurd (not-suc-le-zero h)
+    part (suc n) (suc k) h = ap {B = List Bool} (λ r. false ∷ r) (part n k (le-of-suc-le-suc h))
+
+-- the points one after another are the numbers that they were read from
+flatten-rows : (n : ℕ) (xs : List Float) → 2 * n ≤ length xs → flatten (rows 2 n xs) ≡ take (2 * n) xs
+unfolding flatten
+flatten-rows zero xs h = refl
+flatten-rows (suc n) [] h = absurd (omega arith)
+flatten-rows (suc n) (x ∷ []) h = absurd (omega arith)
+flatten-rows (suc n) (x ∷ y ∷ xs) h =
+    let e : 2 * suc n ≡ suc (suc (2 * n)) = omega arith in
+    rw (e, flatten-rows n xs (omega arith))
+
+-- ---- the answer read back from the buffers
+cut-ends : (n : ℕ) (ls : List (List ℕ)) (tail : List ℕ) → cut n (endsFrom n ls) (flatten ls ++ tail) ≡ ls
+unfolding cut endsFrom flatten
+cut-ends n [] tail = refl
+cut-ends n (l ∷ ls) tail =
+    let k : n + length l - n ≡ length l = omega arith in
+    rw (
+      k,
+      append-assoc l (flatten ls) tail,
+      take-append-seam l (flatten ls ++ tail),
+      drop-append-seam l (flatten ls ++ tail),
+      cut-ends
+          (n + length l) ls tail,
+    )
+
+read-back : (a : Answer) (r : Stitched) (numbers numbers′ : List Float) (nodes nodes′ ends ends′ : List ℕ)
+    → Gave a r numbers numbers′ nodes nodes′ ends ends′ → answerIn r numbers′ nodes′ ends′ ≡ a
+read-back a r numbers numbers′ nodes nodes′ ends ends′ g =
+    let m : length (endsFrom 0 (a .loops)) ≡ r .loops = ends-length 0 (a .loops) ∙ sym (g .loop-count) in
+    let e : take (r .loops) ends′ ≡ endsFrom 0 (a .loops) =
+    ap (take (r .loops)) (g .ends-are) ∙ take-at (endsFrom 0 (a .loops)) (drop (length (endsFrom 0 (a .loops))) ends) (r .loops) m in
+    let l : cut 0 (take (r .loops) ends′) nodes′ ≡ a .loops =
+    ap (λ (x : List ℕ). cut 0 x nodes′) e ∙ ap (cut 0 (endsFrom 0 (a .loops))) (g .nodes-are)
+    ∙ cut-ends 0 (a .loops) (drop (length (flatten (a .loops))) nodes) in
+    rw (g .points-are, l, ← g .counts-are)
+
+-- so the claim about the answer is one about what the buffers hold
+claimed : (t : Float) (ss : List Seg) (r : Stitched) (numbers numbers′ : List Float) (nodes nodes′ ends ends′ : List ℕ)
+    → Gave (stitchedWithin t ss) r numbers numbers′ nodes nodes′ ends ends′ → Claim t ss (answerIn r numbers′ nodes′ ends′)
+claimed t ss r numbers numbers′ nodes nodes′ ends ends′ g =
+    subst (λ (a : Answer). Claim t ss a) (sym (read-back (stitchedWithin t ss) r numbers numbers′ nodes nodes′ ends ends′ g)) (claim t ss)
+
+module _ (t : Float) (ss : List Float) (s : ℕ) (zs₀ : List Float) (n m : ℕ) (zs : List Float) (xs ys nodes ends : List ℕ)
+    (w : Welds t ss s zs₀ n m zs xs ys) (lent : Lent s ss zs₀ nodes ends) (kept : length zs ≡ length zs₀)
+    (x-room : length xs ≡ 384) (y-room : length ys ≡ 384) where
+  few : m ≤ 384
+  few = omega (arith, w .few-edges, lent .few)
+
+  pub first-count : m ≡ length (take m xs)
+  first-count = let a = few in sym (length-take-le m xs (omega arith))
+
+  pub second-count : m ≡ length (take m ys)
+  second-count = let a = few in sym (length-take-le m ys (omega arith))
+
+  pub mark-count : (us : List Bool) → us ≡ replicate 384 false → m ≡ length (take m us)
+  mark-count us e = let a = few in sym (ap length (fresh-part 384 m us e a) ∙ length-replicate m false)
+
+  pub welded-ready : (us : List Bool) → us ≡ replicate 384 false → Ready n zs (take m xs) (take m ys) (take m us)
+  welded-ready us e =
+      let a = first-count in
+      let b = second-count in
+      record {
+        ends =
+            record {
+              room = omega (arith, w .few-points, lent .for-points);
+              same = omega arith;
+              within = λ k h. (let i : k < m = omega arith in rw (getD-take m xs k 0 i, getD-take m ys k 0 i) (w .within k i));
+            };
+        marks = sym (mark-count us e) ∙ a;
+      }
+
+  exact : edgesOf (take m xs) (take m ys) ≡ listedEdges t (segs 2 s ss)
+  exact = edges-exact w
+
+  edge-count : length (listedEdges t (segs 2 s ss)) ≡ m
+  edge-count = edges-counted w (x-room ∙ sym y-room) (omega (arith, lent .few))
+
+  pub welded-spare : (walked : List ℕ) → length walked ≡ 385 → Spare (edgesOf (take m xs) (take m ys)) walked nodes ends
+  welded-spare walked l =
+      let c = edge-count in
+      let d = w .few-edges in
+      rw exact
+      (record {
+        simple = listed-simple t (segs 2 s ss);
+        distinct = listed-distinct t (segs 2 s ss);
+        few = omega (arith, lent .few);
+        walked-room = omega (arith, lent .few);
+        nodes-room = omega (arith, lent .for-nodes);
+        ends-room = omega (arith, lent .for-ends);
+      })
+
+  pub fresh-marks : (us : List Bool) → us ≡ replicate 384 false → take m us ≡ replicate (length (take m xs)) false
+  fresh-marks us e = let a = first-count in fresh-part 384 m us e few ∙ ap (λ (k : ℕ). replicate k false) a
+
+  numbers : zs ≡ over (flatten (weldedPoints t (segs 2 s ss))) zs₀
+  numbers =
+      let room : 2 * n ≤ length zs = omega (arith, w .few-points, lent .for-points) in
+      let first : flatten (weldedPoints t (segs 2 s ss)) ≡ take (2 * n) zs = ap flatten (sym (w .points)) ∙ flatten-rows n zs room in
+      let l : length (take (2 * n) zs) ≡ 2 * n = length-take-le (2 * n) zs room in
+      rw (first, l, ← w .rest) (sym (take-append-drop (2 * n) zs))
+
+  gave-answer : (y : Tally) (nodes′ ends′ : List ℕ)
+      → Wrote (rows 2 n zs) t (length (take m xs)) (walks (rows 2 n zs) (edgesOf (take m xs) (take m ys))) y nodes nodes′ ends ends′
+      → Gave (stitchedWithin t (segs 2 s ss))
+      (record { points = n; nodes = y .nodes; loops = y .loops; listed = m; «in_loops» = y .nodes; flat = y .flat; opened = y .opened })
+      zs₀ zs nodes nodes′ ends ends′
+  unfolding stitchedWithin
+  gave-answer y nodes′ ends′ o =
+      let ps = weldedPoints t (segs 2 s ss) in
+      let es = listedEdges t (segs 2 s ss) in
+      let a = first-count in
+      let p = rw (w .points, exact, ← a) at o in
+      record {
+        numbers-are = numbers;
+        points-are = w .points;
+        nodes-are = p .nodes-are;
+        ends-are = p .ends-are;
+        point-count = sym (points-counted w);
+        node-count = p .node-count;
+        loop-count = p .loop-count;
+        counts-are = ap (λ (k : ℕ). countsOf ps t k (walks ps es)) edge-count ∙ p .counts-are;
+      }
+
+  pub gave : (y : Tally) (nodes′ ends′ : List ℕ)
+      → Wrote (rows 2 n zs) t (length (take m xs)) (walks (rows 2 n zs) (edgesOf (take m xs) (take m ys))) y nodes nodes′ ends ends′
+      → Stitches t (segs 2 s ss)
+      (record { points = n; nodes = y .nodes; loops = y .loops; listed = m; «in_loops» = y .nodes; flat = y .flat; opened = y .opened })
+      zs₀ zs nodes nodes′ ends ends′
+  gave y nodes′ ends′ o =
+      let g = gave-answer y nodes′ ends′ o in
+      record { gave = g; claim = claimed t (segs 2 s ss) _ zs₀ zs nodes nodes′ ends ends′ g }

@@ -1,0 +1,100 @@
+-- `stitch::stitch_edges` meets its contract. Assumes nothing.
+use Prim.Native.Nat.{_-_}
+use native.Mathlib.Omega.{arith}
+use lib.ListN.{length}
+use Rattle.stitch.proofs.Stitching.{Looping, looping-start, looping-ready, looping-spare, looping-step, looping-end}
+use Rattle.stitch.proofs.stitch_edges.Statement.{statement}
+use Rattle.stitch.proofs.stitch_edges.Tie as tie
+
+abbrev Inv-loop : tie.InvT-loop
+Inv-loop points n smaller larger used₀ walked₀ tol2 nodes₀ ends₀ t₀ k₀ used walked nodes ends t k =
+    Looping n points smaller larger tol2 used₀ walked₀ nodes₀ ends₀ used walked nodes ends t k
+
+abbrev μ-loop : tie.MeasureT-loop
+μ-loop points n smaller larger used₀ walked₀ tol2 nodes₀ ends₀ t₀ k₀ used walked nodes ends t k = length smaller - k
+
+loop-holds : tie.Need-loop-holds Inv-loop μ-loop
+loop-holds c =
+    let s = c .before .before .before .before .before .before .before in
+    let g = s .args in
+    looping-start (g .n) (g .points .now) (g .smaller .now) (g .larger .now) (g .tol2) (g .used .now) (g .walked .now) (g .nodes .now)
+    (g .ends .now)
+    (s .pre .0 .ends .same) (s .pre .2)
+
+stitch-from-requires : tie.Need-stitch-from-requires Inv-loop μ-loop
+stitch-from-requires c κs =
+    let s = c .before .before .before .before .before .before .before .before .before .before .before .before .before in
+    let g = s .args in
+    let l = c .before .before .before .before .before .loop in (
+      looping-ready (g .n) (g .points .now) (g .smaller .now) (g .larger .now) (g .tol2) (g .used .now) (g .walked .now) (g .nodes .now)
+          (g .ends .now)
+          (l .used) (l .walked) (l .nodes) (l .ends) (l .t) (l .k) (l .inv) (s .pre .0) (s .pre .1),
+      looping-spare (g .n) (g .points .now) (g .smaller .now) (g .larger .now) (g .tol2) (g .used .now) (g .walked .now) (g .nodes .now)
+          (g .ends .now)
+          (l .used) (l .walked) (l .nodes) (l .ends) (l .t) (l .k) (l .inv) (s .pre .0) (s .pre .1),
+      c .before .before .before .before .loop-test .taken,
+      l .inv .so-far .counting,
+    )
+
+add-k : tie.Need-add-k Inv-loop μ-loop
+add-k c =
+    omega
+    (arith, c .before .before .before .before .before .before .before .before .before .before .before .before .before .loop-test .taken)
+
+loop-less : tie.Need-loop-less Inv-loop μ-loop
+loop-less c =
+    omega
+    (arith, c .before .before .before .before .before .before .before .before .before .before .before .before .before .loop-test .taken)
+
+loop-again : tie.Need-loop-again Inv-loop μ-loop
+loop-again c =
+    let s =
+    c .before .before .before .before .before .before .before .before .before .before .before .before .before .before .before .before
+    .before .before .before .before .before .before in
+    let g = s .args in
+    let l = c .before .before .before .before .before .before .before .before .before .before .before .before .before .before .loop in
+    let f = c .before .before .before .before .before .before .before .before .stitch-from in
+    looping-step (g .n) (g .points .now) (g .smaller .now) (g .larger .now) (g .tol2) (g .used .now) (g .walked .now) (g .nodes .now)
+    (g .ends .now)
+    (l .used) (l .walked) (l .nodes) (l .ends) (l .t) (l .k) (l .inv) (s .pre .0) (s .pre .1)
+    (c .before .before .before .before .before .before .before .before .before .before .before .before .before .loop-test .taken)
+    (f .last .1 .1 .1 .1 .0) (f .last .1 .1 .1 .1 .1 .0) (f .last .1 .1 .1 .1 .1 .1 .1 .0) (f .last .1 .1 .1 .1 .1 .1 .1 .1 .0) (f .result)
+    (f .kept .1 .1 .1 .1 .0) (f .kept .1 .1 .1 .1 .1 .0) (f .kept .1 .1 .1 .1 .1 .1 .1 .0) (f .kept .1 .1 .1 .1 .1 .1 .1 .1 .0) (f .ensures)
+
+same-length : tie.Need-same-length Inv-loop μ-loop
+same-length c = c .before .loop .inv .marks
+
+same-length-2 : tie.Need-same-length-2 Inv-loop μ-loop
+same-length-2 c = c .before .loop .inv .walked-length
+
+same-length-3 : tie.Need-same-length-3 Inv-loop μ-loop
+same-length-3 c = c .before .loop .inv .nodes-length
+
+same-length-4 : tie.Need-same-length-4 Inv-loop μ-loop
+same-length-4 c = c .before .loop .inv .ends-length′
+
+returns : tie.Need-returns Inv-loop μ-loop
+returns c =
+    let s = c .before .before .before .before .before .before .before .before .before in
+    let g = s .args in
+    let l = c .before .loop in
+    looping-end (g .n) (g .points .now) (g .smaller .now) (g .larger .now) (g .tol2) (g .used .now) (g .walked .now) (g .nodes .now)
+    (g .ends .now)
+    (l .used) (l .walked) (l .nodes) (l .ends) (l .t) (l .k) (l .inv) (s .pre .0) (s .pre .1) (c .loop-test .left)
+
+pub stitch-edges-spec : {M : Type 1} → statement M
+stitch-edges-spec =
+    tie.close
+    (tie.spec
+    Inv-loop
+    μ-loop
+    loop-holds
+    stitch-from-requires
+    add-k
+    loop-less
+    loop-again
+    same-length
+    same-length-2
+    same-length-3
+    same-length-4
+    returns)

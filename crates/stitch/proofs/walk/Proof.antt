@@ -1,0 +1,263 @@
+-- `stitch::walk` meets its contract. Assumes nothing.
+use mathlib.Core.Path.{_≡_, sym, _∙_}
+use mathlib.Core.Bool.{true}
+use Prim.Native.Nat.{ℕ, _<_}
+use native.Mathlib.Omega.{arith}
+use borrow.Author.Needs.{needs}
+use lib.ListN.{length, getD, set, length-set}
+use Rattle.vector.specs.Rows.{rows}
+use Rattle.weld.specs.Code.{edgesOf}
+use Rattle.stitch.specs.declared.Next.{Next}
+use Rattle.stitch.specs.declared.Next.the-variants as next
+use Rattle.stitch.specs.Walk.{nextEdge, Walk}
+use Rattle.stitch.specs.Code.{unused, unused}
+use Rattle.stitch.proofs.Walking.{Going, whole, walk-is, going-start, in-buffer, ready, free-in, fewer, going-step, going-open, going-closed}
+use Rattle.stitch.proofs.walk.Statement.{statement}
+use Rattle.stitch.proofs.walk.Tie as tie
+
+abbrev Inv-loop : tie.InvT-loop
+Inv-loop points n smaller larger used₀ nodes₀ start-edge start-node count₀ previous₀ current₀ used nodes count previous current =
+    Going n points smaller larger start-node
+    (whole (rows 2 n points) (edgesOf smaller larger) start-node start-edge current₀ used₀) (length nodes₀) used nodes count previous
+    current
+
+abbrev μ-loop : tie.MeasureT-loop
+μ-loop points n smaller larger used₀ nodes₀ start-edge start-node count₀ previous₀ current₀ used nodes count previous current = unused used
+
+-- the walk, and the length of its buffer after the first store
+abbrev the-walk : tie.Start Inv-loop μ-loop → Walk
+the-walk s =
+    let g = s .args in
+    let k = g .start-edge in
+    whole (rows 2 (g .n) (g .points .now)) (edgesOf (g .smaller .now) (g .larger .now)) (getD (g .smaller .now) k 0) k
+    (getD (g .larger .now) k 0)
+    (set (g .used .now) k true)
+
+abbrev room : tie.Start Inv-loop μ-loop → ℕ
+room s = length (set (s .args .nodes .now) 0 (getD (s .args .smaller .now) (s .args .start-edge) 0))
+
+fits : (s : tie.Start Inv-loop μ-loop) → length (s .args .smaller .now) < room s
+fits s = rw (length-set (s .args .nodes .now) 0 (getD (s .args .smaller .now) (s .args .start-edge) 0)) (s .pre .2)
+
+-- where the loop's test is reached: the entry, and the junction's choice there
+abbrev entry : tie.At-loop Inv-loop μ-loop → tie.Start Inv-loop μ-loop
+entry L = L .before .before .before .before .before .before .before .before
+
+abbrev choice : tie.At-loop Inv-loop μ-loop → Next
+choice L =
+    let g = entry L .args in
+    nextEdge (rows 2 (g .n) (g .points .now)) (edgesOf (g .smaller .now) (g .larger .now)) (L .loop .used) (L .loop .previous)
+    (L .loop .current)
+
+-- past the choice of an edge
+abbrev turn : tie.After-known-told Inv-loop μ-loop → tie.At-loop Inv-loop μ-loop
+turn c = c .before .before .before .before .before .before
+
+abbrev taken : tie.After-known-told Inv-loop μ-loop → ℕ
+taken c = c .before .next-edge .given .0 .0
+
+chosen : (c : tie.After-known-told Inv-loop μ-loop) → choice (turn c) ≡ next.Edge (taken c)
+chosen c = sym (c .before .before .before .select-next-edge .ensures) ∙ c .before .next-edge .given .1
+
+inside : (c : tie.After-known-told Inv-loop μ-loop) → taken c < length (entry (turn c) .args .smaller .now)
+inside c =
+    let s = entry (turn c) in
+    let g = s .args in
+    let l = turn c .loop in
+    free-in (g .n) (g .points .now) (g .smaller .now) (g .larger .now) _ (the-walk s) (room s) (l .used) (l .nodes) (l .count) (l .previous)
+    (l .current) (l .inv) (s .pre .0 .ends) (fits s) (taken c) (chosen c)
+
+mul-start-node : tie.Need-mul-start-node Inv-loop μ-loop
+mul-start-node c = omega arith
+
+shared-slice-read-start-node : tie.Need-shared-slice-read-start-node Inv-loop μ-loop
+shared-slice-read-start-node c = omega arith
+
+slice-write-used : tie.Need-slice-write-used Inv-loop μ-loop
+slice-write-used c = omega (arith, c .before .before .before .before .before .before .pre .0 .marks)
+
+slice-write-nodes : tie.Need-slice-write-nodes Inv-loop μ-loop
+slice-write-nodes c = omega arith
+
+mul-current : tie.Need-mul-current Inv-loop μ-loop
+mul-current c = omega arith
+
+shared-slice-read-current : tie.Need-shared-slice-read-current Inv-loop μ-loop
+shared-slice-read-current c = omega (arith, c .before .before .before .before .before .before .before .pre .0 .ends .same)
+
+loop-holds : tie.Need-loop-holds Inv-loop μ-loop
+loop-holds c =
+    let s = c .before .before .before .before .before .before .before in
+    let g = s .args in
+    going-start (g .n) (g .points .now) (g .smaller .now) (g .larger .now) (g .used .now) (g .nodes .now) (g .start-edge) (s .pre .0)
+    (s .pre .1)
+    (s .pre .2) (s .pre .3)
+
+mul-nodes : tie.Need-mul-nodes Inv-loop μ-loop
+mul-nodes c =
+    let s = c .before .before .before .before .before .before .before .before .before in
+    let g = s .args in
+    let l = c .before .loop in
+    omega (arith, l .inv .left)
+
+slice-write-nodes-2 : tie.Need-slice-write-nodes-2 Inv-loop μ-loop
+slice-write-nodes-2 c =
+    let s = c .before .before .before .before .before .before .before .before .before in
+    let g = s .args in
+    let l = c .before .loop in
+    in-buffer (g .n) (g .points .now) (g .smaller .now) (g .larger .now) _ (the-walk s) (room s) (l .used) (l .nodes) (l .count)
+    (l .previous)
+    (l .current) (l .inv) (s .pre .0 .ends) (fits s)
+
+select-next-edge-requires : tie.Need-select-next-edge-requires Inv-loop μ-loop
+select-next-edge-requires c κs =
+    let s = c .before .before .before .before .before .before .before .before .before .before in
+    let g = s .args in
+    let l = c .before .before .loop in (
+      ready (g .n) (g .points .now) (g .smaller .now) (g .larger .now) _ (the-walk s) (room s) (l .used) (l .nodes) (l .count) (l .previous)
+          (l .current) (l .inv) (s .pre .0 .ends) (fits s),
+      l .inv .p-in,
+      l .inv .c-in,
+    )
+
+enum-known-next-edge : tie.Need-enum-known-next-edge Inv-loop μ-loop
+enum-known-next-edge c = search needs
+
+enum-told : tie.Need-enum-told Inv-loop μ-loop
+enum-told c = search needs
+
+add-t25 : tie.Need-add-t25 Inv-loop μ-loop
+add-t25 c = omega (arith, c .before .before .before .before .before .loop .inv .left)
+
+same-length : tie.Need-same-length Inv-loop μ-loop
+same-length c =
+    omega (
+      arith,
+      c .before .before .before .before .before .loop .inv .marks,
+      c .before .before .before .before .before .before .before
+          .before .before .before .before .before .before .pre .0 .marks,
+    )
+
+same-length-2 : tie.Need-same-length-2 Inv-loop μ-loop
+same-length-2 c = simp length-set (omega (arith, simp length-set at (c .before .before .before .before .before .loop .inv .nodes)))
+
+returns : tie.Need-returns Inv-loop μ-loop
+returns c =
+    let s = c .before .before .before .before .before .before .before .before .before .before .before .before .before in
+    let g = s .args in
+    let l = c .before .before .before .before .before .loop in
+    rw (walk-is (rows 2 (g .n) (g .points .now)) (g .smaller .now) (g .larger .now) (g .start-edge) (g .used .now) (s .pre .0 .ends .same))
+    (going-open (g .n) (g .points .now) (g .smaller .now) (g .larger .now) _ (the-walk s) (room s) (l .used) (l .nodes) (l .count)
+    (l .previous)
+    (l .current) (l .inv) (s .pre .0 .ends) (fits s)
+    (c .before .before .before .before .loop-test .taken) (sym (c .before .before .select-next-edge .ensures) ∙ c .enum-told .given .1))
+
+slice-write-used-2 : tie.Need-slice-write-used-2 Inv-loop μ-loop
+slice-write-used-2 c = omega (arith, inside c, c .before .before .before .before .before .before .loop .inv .marks)
+
+mul-other-end : tie.Need-mul-other-end Inv-loop μ-loop
+mul-other-end c = omega (arith, inside c)
+
+shared-slice-read-other-end : tie.Need-shared-slice-read-other-end Inv-loop μ-loop
+shared-slice-read-other-end c = omega (arith, inside (c .before))
+
+mul-other-end-2 : tie.Need-mul-other-end-2 Inv-loop μ-loop
+mul-other-end-2 c =
+    omega (
+      arith,
+      inside (c .before),
+      c .before .before .before .before .before .before .before .before .before .before .before .before
+          .before .before .before .pre .0 .ends .same,
+    )
+
+shared-slice-read-other-end-2 : tie.Need-shared-slice-read-other-end-2 Inv-loop μ-loop
+shared-slice-read-other-end-2 c =
+    omega (
+      arith,
+      inside (c .before .before),
+      c .before .before .before .before .before .before .before .before .before .before .before
+          .before .before .before .before .before .pre .0 .ends .same,
+    )
+
+other-end-requires : tie.Need-other-end-requires Inv-loop μ-loop
+other-end-requires c κs = search needs
+
+add-count : tie.Need-add-count Inv-loop μ-loop
+add-count c = omega (arith, c .before .before .before .before .before .before .before .before .before .loop .inv .left)
+
+loop-less : tie.Need-loop-less Inv-loop μ-loop
+loop-less c =
+    let s =
+    c .before .before .before .before .before .before .before .before .before .before .before .before .before .before .before .before
+    .before in
+    let g = s .args in
+    let l = c .before .before .before .before .before .before .before .before .before .loop in
+    fewer (g .n) (g .points .now) (g .smaller .now) (g .larger .now) _ (the-walk s) (room s) (l .used) (l .nodes) (l .count) (l .previous)
+    (l .current) (l .inv) (s .pre .0 .ends) (fits s)
+    (taken (c .before .before .before)) (chosen (c .before .before .before))
+
+loop-again : tie.Need-loop-again Inv-loop μ-loop
+loop-again c =
+    let s =
+    c .before .before .before .before .before .before .before .before .before .before .before .before .before .before .before .before
+    .before in
+    let g = s .args in
+    let l = c .before .before .before .before .before .before .before .before .before .loop in
+    going-step (g .n) (g .points .now) (g .smaller .now) (g .larger .now) _ (the-walk s) (room s) (l .used) (l .nodes) (l .count)
+    (l .previous)
+    (l .current) (l .inv) (s .pre .0 .ends) (fits s)
+    (taken (c .before .before .before)) (chosen (c .before .before .before)) (c .other-end .result)
+    (c .before .before .before .before .before .before .before .before .loop-test .taken) (c .other-end .ensures)
+
+same-length-3 : tie.Need-same-length-3 Inv-loop μ-loop
+same-length-3 c =
+    omega (arith, c .before .loop .inv .marks, c .before .before .before .before .before .before .before .before .before .pre .0 .marks)
+
+same-length-4 : tie.Need-same-length-4 Inv-loop μ-loop
+same-length-4 c = omega (arith, simp length-set at (c .before .loop .inv .nodes))
+
+returns-2 : tie.Need-returns-2 Inv-loop μ-loop
+returns-2 c =
+    let s = c .before .before .before .before .before .before .before .before .before in
+    let g = s .args in
+    let l = c .before .loop in
+    rw (walk-is (rows 2 (g .n) (g .points .now)) (g .smaller .now) (g .larger .now) (g .start-edge) (g .used .now) (s .pre .0 .ends .same))
+    (going-closed (g .n) (g .points .now) (g .smaller .now) (g .larger .now) _ (the-walk s) (room s) (l .used) (l .nodes) (l .count)
+    (l .previous)
+    (l .current) (l .inv) (s .pre .0 .ends) (fits s)
+    (c .loop-test .left))
+
+pub walk-spec : {M : Type 1} → statement M
+walk-spec =
+    tie.close
+    (tie.spec
+    Inv-loop
+    μ-loop
+    mul-start-node
+    shared-slice-read-start-node
+    slice-write-used
+    slice-write-nodes
+    mul-current
+    shared-slice-read-current
+    loop-holds
+    mul-nodes
+    slice-write-nodes-2
+    select-next-edge-requires
+    enum-known-next-edge
+    enum-told
+    add-t25
+    same-length
+    same-length-2
+    returns
+    slice-write-used-2
+    mul-other-end
+    shared-slice-read-other-end
+    mul-other-end-2
+    shared-slice-read-other-end-2
+    other-end-requires
+    add-count
+    loop-less
+    loop-again
+    same-length-3
+    same-length-4
+    returns-2)

@@ -1,0 +1,4 @@
+pub mod Walk
+pub mod Stitch
+pub mod Claim
+pub mod Code
