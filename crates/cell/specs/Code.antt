@@ -6,8 +6,9 @@ use mathlib.Core.Bool.{Bool, true, cond, _&&_}
 use lib.Dec.{T, ltb}
 use lib.Ieee.{Float}
 use lib.ListN.{length, take}
-use Rattle.cell.specs.Faces.{Face, polygonOf, endsFrom}
-use Rattle.cell.specs.Read.{corner, areRows, over, polygons, Read, refused, read, Gave, Faced}
+use Rattle.vector.specs.Rows.{endsFrom, over}
+use Rattle.cell.specs.Faces.{Face, polygonOf}
+use Rattle.cell.specs.Read.{corner, areRows, polygons, Read, refused, read, Gave, Faced}
 use Rattle.cell.specs.declared.Reading.{Reading}
 
 -- whether every position is below n

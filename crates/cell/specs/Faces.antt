@@ -1,5 +1,5 @@
 -- The faces of a cell, each a list of positions in the connectivity. Definitions only.
-use Prim.Native.Nat.{ℕ, zero, suc, _+_}
+use Prim.Native.Nat.{ℕ, zero, suc}
 use mathlib.Core.List.{List, [], _∷_}
 use mathlib.Core.Bool.{cond}
 use lib.Dec.{eqb, ltb}
@@ -67,8 +67,3 @@ from k (suc n) = k ∷ from (suc k) n
 -- a plane cell has one face, the polygon of its first n nodes
 abbrev pub polygonOf : ℕ → List Face
 polygonOf n = from 0 n ∷ []
-
--- where each face ends when they stand in a row: running totals of their sizes, n standing before them
-unfoldable pub endsFrom : {A : Type 0} → ℕ → List (List A) → List ℕ
-endsFrom n [] = []
-endsFrom n (f ∷ fs) = (n + length f) ∷ endsFrom (n + length f) fs

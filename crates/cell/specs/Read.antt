@@ -1,14 +1,15 @@
 -- The reading of a cell: its faces as polygons of corner coordinates, or the number of a refusal. Over the width w of a row.
 -- Definitions only.
-use Prim.Native.Nat.{ℕ, _*_, _/_, _%_}
+use Prim.Native.Nat.{ℕ, _/_, _%_}
 use mathlib.Core.Path.{_≡_}
-use mathlib.Core.List.{List, [], _∷_, _++_, map, flatten}
+use mathlib.Core.List.{List, [], _∷_, map, flatten}
 use mathlib.Core.Bool.{Bool, true, cond, _&&_}
 use lib.Dec.{eqb, ltb}
 use lib.Ieee.{Float}
-use lib.ListN.{length, getD, take, drop}
+use lib.ListN.{length, getD}
+use Rattle.vector.specs.Rows.{row, over, endsFrom}
 use Rattle.cell.specs.Types.{allow, spaceType, spaceNodes, shapeOf, planeType, planeNodes, planeCorners}
-use Rattle.cell.specs.Faces.{Face, facesOf, polygonOf, endsFrom}
+use Rattle.cell.specs.Faces.{Face, facesOf, polygonOf}
 use Rattle.cell.specs.declared.Nodes.{Nodes}
 use Rattle.cell.specs.declared.InSpace as S
 use Rattle.cell.specs.declared.InSpace.the-variants as s
@@ -18,10 +19,6 @@ use Rattle.cell.specs.declared.Reading.{Reading}
 use Rattle.cell.specs.declared.Reading.the-variants.{Refused, Cell}
 
 -- ---- corners
-
--- row n of the coordinates, w numbers a row
-abbrev pub row : ℕ → List Float → ℕ → List Float
-row w xs n = take w (drop (w * n) xs)
 
 -- the coordinates of the node at position p of the connectivity c
 abbrev pub corner : ℕ → List ℕ → List Float → ℕ → List Float
@@ -108,10 +105,6 @@ coordsOf (read ps) = flatten (flatten ps)
 abbrev pub endsOf : Read → List ℕ
 endsOf (refused k) = []
 endsOf (read ps) = endsFrom 0 ps
-
--- ws written over the start of xs
-abbrev pub over : {A : Type 0} → List A → List A → List A
-over ws xs = ws ++ drop (length ws) xs
 
 -- the most face corners and faces in space, and the most corners in the plane, that a type number's cells have
 abbrev pub spaceMost : ℕ → ℕ

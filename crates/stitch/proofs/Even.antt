@@ -11,8 +11,7 @@ use lib.Dec.{eqb}
 use lib.ListN.{length, getD, set, replicate, length-set, length-replicate}
 use borrow.Author.Tests.{eq-eqb, ne-eqb, eqb-true, eqb-false}
 use Rattle.vector.specs.Vector.{Vector}
-use Rattle.weld.specs.Weld.{Edge, edge, lo, hi}
-use Rattle.weld.proofs.Edges.{Simple, Within}
+use Rattle.weld.specs.Weld.{Edge, edge, lo, hi, Simple, Within}
 use Rattle.stitch.specs.declared.Next.{Next}
 use Rattle.stitch.specs.declared.Next.the-variants as next
 use Rattle.stitch.specs.Walk.{edgeAt, touches, other, available, nextEdge, Walk, rest, walkFrom, walksFrom, walks}

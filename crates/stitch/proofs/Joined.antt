@@ -9,8 +9,8 @@ use lib.Dec.{eqb}
 use lib.ListN.{length, getD, set, replicate, length-replicate}
 use borrow.Author.Tests.{eq-eqb, eqb-true}
 use Rattle.vector.specs.Vector.{Vector}
-use Rattle.weld.specs.Weld.{Edge, edge, lo, hi, between}
-use Rattle.weld.proofs.Edges.{Simple, Distinct, between-sym}
+use Rattle.weld.specs.Weld.{Edge, edge, lo, hi, between, Simple, Distinct}
+use Rattle.weld.proofs.Edges.{between-sym}
 use Rattle.stitch.specs.declared.Next.{Next}
 use Rattle.stitch.specs.declared.Next.the-variants as next
 use Rattle.stitch.specs.Walk.{edgeAt, touches, other, nextEdge, Walk, onward, rest, walkFrom, walksFrom, walks}

@@ -1,6 +1,6 @@
 -- The loops returned: their sides are edges of the walks, reversed or not, so each is listed and none is used twice. Assumes nothing.
 use mathlib.Core.Path.{_≡_, refl, ap, sym, _∙_, subst}
-use mathlib.Core.List.{List, [], _∷_, _++_, map, reverse, reverseAux}
+use mathlib.Core.List.{List, [], _∷_, _++_, map, reverse, reverseAux, flatten}
 use mathlib.Core.Bool.{Bool, true, false, cond}
 use Prim.Native.Nat.{ℕ, suc, _+_, _*_, _≤_, _<_}
 use native.Mathlib.Nat.{not-suc-le-zero}
@@ -11,10 +11,10 @@ use lib.ListN.{length, getD, length-append, length-reverseAux}
 use borrow.Author.Tests.{eq-eqb}
 use Rattle.vector.specs.Number.{f0}
 use Rattle.vector.specs.Vector.{Vector}
-use Rattle.weld.specs.Weld.{Edge, same, between, listed}
-use Rattle.weld.proofs.Edges.{Simple, Distinct, between-sym, same-eq, same-self, listed-at}
+use Rattle.weld.specs.Weld.{Edge, same, between, listed, Simple, Distinct}
+use Rattle.weld.proofs.Edges.{between-sym, same-eq, same-self, listed-at}
 use Rattle.stitch.specs.Walk.{edgeAt, Walk}
-use Rattle.stitch.specs.Stitch.{Kind, Loop, Flat, Open, signedArea, kindOf, kind, turned, ifLoop, loops, flatten}
+use Rattle.stitch.specs.Stitch.{Kind, Loop, Flat, Open, signedArea, kindOf, kind, turned, ifLoop, loops}
 use Rattle.stitch.specs.Claim.{bit, times, timesEdge, All, edgesWalked, Joined, trail, lastOr, steps, sides, sidesOf}
 use Rattle.stitch.specs.Code.{edgesIn}
 use Rattle.stitch.proofs.Lists.{all-map, Fair, fair-head, fair-tail, fair-apart}

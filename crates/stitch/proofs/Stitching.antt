@@ -1,6 +1,6 @@
 -- The loop over the edges: the loops written so far, the counts, and that a turn keeps them. Assumes nothing.
 use mathlib.Core.Path.{_≡_, refl, ap, sym, _∙_, subst}
-use mathlib.Core.List.{List, [], _∷_, _++_, append-assoc, append-nil}
+use mathlib.Core.List.{List, [], _∷_, _++_, append-assoc, append-nil, flatten}
 use mathlib.Core.Bool.{Bool, true, false}
 use Prim.Native.Nat.{ℕ, suc, _+_, _≤_, _<_}
 use native.Mathlib.Numerals.{add-one}
@@ -9,13 +9,13 @@ use lib.Ieee.{Float}
 use lib.ListN.{length, getD, set, take, drop, replicate, length-append, length-drop, length-replicate, drop-of-length-le}
 use lib.Seq.{drop-cons, drop-drop, drop-append-add, take-append-seam, take-length, set-append-seam, paste}
 use Rattle.vector.specs.Vector.{Vector}
-use Rattle.vector.specs.Rows.{rows, over}
+use Rattle.vector.specs.Rows.{rows, over, endsFrom}
 use Rattle.weld.specs.Weld.{Edge}
 use Rattle.weld.specs.Code.{edgesOf}
 use Rattle.weld.proofs.Lists.{edges-length}
 use Rattle.stitch.specs.declared.Tally.{Tally}
 use Rattle.stitch.specs.Walk.{noEdge, Walk, walkFrom, walksFrom, walks}
-use Rattle.stitch.specs.Stitch.{Kind, Loop, Flat, Open, Counts, kind, turned, loops, countsOf, flatten, endsFrom}
+use Rattle.stitch.specs.Stitch.{Kind, Loop, Flat, Open, Counts, kind, turned, loops, countsOf}
 use Rattle.stitch.specs.Code.{unused, Finished, Ready, Spare, Counting, Turn, Wrote}
 use Rattle.stitch.proofs.Marks.{fresh-unused}
 use Rattle.stitch.proofs.Once.{walk-left, walk-length}

@@ -11,9 +11,8 @@ use lib.ListN.{length, getD, set, take, length-take}
 use Rattle.vector.specs.Number.{abs}
 use Rattle.vector.specs.Vector.{Vector}
 use Rattle.vector.specs.Rows.{rows}
-use Rattle.weld.specs.Weld.{Edge, edge, lo, hi}
+use Rattle.weld.specs.Weld.{Edge, edge, lo, hi, Within}
 use Rattle.weld.specs.Code.{edgesOf}
-use Rattle.weld.proofs.Edges.{Within}
 use Rattle.weld.proofs.Lists.{edges-length, edges-getD}
 use Rattle.stitch.specs.declared.Next.{Next}
 use Rattle.stitch.specs.declared.Next.the-variants as next

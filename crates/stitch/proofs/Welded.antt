@@ -1,6 +1,6 @@
 -- From welding to the walks, and from the walks to the answer. Assumes nothing.
 use mathlib.Core.Path.{_≡_, refl, ap, sym, _∙_, subst}
-use mathlib.Core.List.{List, [], _∷_, _++_, append-assoc}
+use mathlib.Core.List.{List, [], _∷_, _++_, append-assoc, flatten}
 use mathlib.Core.Bool.{Bool, false}
 use Prim.Native.Nat.{ℕ, zero, suc, _+_, _*_, _-_, _≤_, _<_}
 use native.Mathlib.Nat.{not-suc-le-zero, le-of-suc-le-suc}
@@ -8,7 +8,7 @@ use native.Mathlib.Omega.{arith}
 use lib.Ieee.{Float}
 use lib.ListN.{length, take, drop, replicate, length-replicate, take-append-drop}
 use lib.Seq.{length-take-le, getD-take, take-at, take-append-seam, drop-append-seam}
-use Rattle.vector.specs.Rows.{Seg, rows, segs, over}
+use Rattle.vector.specs.Rows.{Seg, rows, segs, over, endsFrom}
 use Rattle.weld.specs.Weld.{weldedPoints, listedEdges}
 use Rattle.weld.specs.Code.{edgesOf, Welds}
 use Rattle.weld.proofs.Edges.{listed-simple, listed-distinct}
@@ -16,7 +16,7 @@ use Rattle.weld.proofs.Welding.{edges-exact, points-counted, edges-counted}
 use Rattle.stitch.specs.declared.Tally.{Tally}
 use Rattle.stitch.specs.declared.Stitched.{Stitched}
 use Rattle.stitch.specs.Walk.{walks}
-use Rattle.stitch.specs.Stitch.{loops, countsOf, flatten, endsFrom, Answer, stitchedWithin}
+use Rattle.stitch.specs.Stitch.{loops, countsOf, Answer, stitchedWithin}
 use Rattle.stitch.specs.Claim.{Claim}
 use Rattle.stitch.specs.Code.{Ready, Spare, Wrote, Lent, Gave, cut, answerIn, Stitches}
 use Rattle.stitch.proofs.Claim.{claim}

@@ -1,7 +1,7 @@
 -- The claim of document 01 about a whole list of segments and the answer to it. Definitions only.
 -- That it holds of every list and every tolerance is `claim`, in proofs/Claim.antt.
 use mathlib.Core.Path.{_≡_}
-use mathlib.Core.List.{List, [], _∷_, _++_}
+use mathlib.Core.List.{List, [], _∷_, _++_, flatten}
 use mathlib.Core.Bool.{Bool, true, false, _&&_, _||_}
 use mathlib.Core.Logic.{_↔_}
 use Prim.Native.Nat.{ℕ, _+_, _*_, _%_, _≤_, _<_}
@@ -11,7 +11,7 @@ use lib.Ieee.{Float}
 use Rattle.vector.specs.Rows.{Seg}
 use Rattle.weld.specs.Weld.{Edge, edge, same, between, listed, becomes, weldedPoints, listedEdges}
 use Rattle.stitch.specs.Walk.{edgeAt, touches, Walk, walks}
-use Rattle.stitch.specs.Stitch.{loops, countsOf, flatten, Answer}
+use Rattle.stitch.specs.Stitch.{loops, countsOf, Answer}
 
 -- ---- words of the claim
 

@@ -1,6 +1,6 @@
 -- What the clauses of the code cite. Definitions only.
 use mathlib.Core.Path.{_≡_}
-use mathlib.Core.List.{List, [], _∷_}
+use mathlib.Core.List.{List, [], _∷_, flatten}
 use mathlib.Core.Bool.{Bool, true, false, cond}
 use Prim.Native.Nat.{ℕ, suc, _+_, _*_, _-_, _/_, _≤_, _<_}
 use lib.Dec.{ltb}
@@ -9,15 +9,14 @@ use lib.Seq.{paste}
 use lib.Ieee.{Float, lt}
 use Rattle.vector.specs.Vector.{Vector, diff, norm}
 use Rattle.vector.specs.View.{vec2}
-use Rattle.vector.specs.Rows.{Seg, rows, over}
-use Rattle.weld.specs.Weld.{Edge}
-use Rattle.weld.proofs.Edges.{Simple, Distinct}
+use Rattle.vector.specs.Rows.{Seg, rows, over, endsFrom}
+use Rattle.weld.specs.Weld.{Edge, Simple, Distinct}
 use Rattle.stitch.specs.declared.Arrival.{Arrival}
 use Rattle.stitch.specs.declared.Best.{Best}
 use Rattle.stitch.specs.Walk.{pointAt, edgeAt, other, available, cosineTo, Walk, walkFrom}
 use Rattle.stitch.specs.declared.Tally.{Tally}
 use Rattle.stitch.specs.declared.Stitched.{Stitched}
-use Rattle.stitch.specs.Stitch.{Kind, Loop, Flat, Open, kind, turned, loops, countsOf, flatten, endsFrom, Answer, stitchedWithin}
+use Rattle.stitch.specs.Stitch.{Kind, Loop, Flat, Open, kind, turned, loops, countsOf, Answer, stitchedWithin}
 use Rattle.stitch.specs.Claim.{Claim}
 
 -- how many marks are not set

@@ -1,5 +1,5 @@
 -- What a walk is, and the answer of stitching: points, loops and the four counts of document 01. Definitions only.
-use mathlib.Core.List.{List, [], _∷_, _++_, reverse}
+use mathlib.Core.List.{List, [], _∷_, reverse}
 use mathlib.Core.Bool.{Bool, true, false, cond}
 use Prim.Native.Nat.{ℕ, _+_}
 use lib.IntN.{pos}
@@ -104,12 +104,3 @@ stitchedWithin t ss =
 -- `stitch_segments`
 abbrev pub stitched : Float → List Seg → Answer
 stitched tol ss = stitchedWithin (mul binary64 tol tol) ss
-
--- ---- the answer as it is written: points one after another, node numbers of all loops, and where each loop ends among them
-unfoldable pub flatten : {A : Type 0} → List (List A) → List A
-flatten [] = []
-flatten (l ∷ ls) = l ++ flatten ls
-
-unfoldable pub endsFrom : ℕ → List (List ℕ) → List ℕ
-endsFrom n [] = []
-endsFrom n (l ∷ ls) = (n + length l) ∷ endsFrom (n + length l) ls

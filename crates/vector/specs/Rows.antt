@@ -41,6 +41,11 @@ segs w n xs = pairUp (rows w (2 * n) xs)
 abbrev pub putSeg : ℕ → List Float → ℕ → Vector → Vector → List Float
 putSeg w xs n a b = put w (put w xs (2 * n) a) (2 * n + 1) b
 
+-- where each list ends when they stand in a row: running totals of their lengths, n standing before them
+unfoldable pub endsFrom : {A : Type 0} → ℕ → List (List A) → List ℕ
+endsFrom n [] = []
+endsFrom n (l ∷ ls) = (n + length l) ∷ endsFrom (n + length l) ls
+
 -- a buffer xs with ws written over its start
 abbrev pub over : {A : Type 0} → List A → List A → List A
 over ws xs = ws ++ drop (length ws) xs

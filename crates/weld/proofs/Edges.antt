@@ -13,18 +13,7 @@ use borrow.Author.Tests.{eq-eqb, eqb-true, eqb-false, ltb-true}
 use Rattle.vector.specs.Vector.{Vector, dist2}
 use Rattle.vector.specs.Rows.{Seg, seg}
 use Rattle.weld.specs.Weld.{Edge, edge, lo, hi, same, between, listed, find, push, pointsFrom, becomes, addEdge, edgesFrom, weldedPoints, listedEdges}
-
--- each edge has its smaller point first
-abbrev pub Simple : List Edge → Type 0
-Simple es = (k : ℕ) → k < length es → lo (getD es k (edge 0 0)) < hi (getD es k (edge 0 0))
-
--- each edge is between two of n points
-abbrev pub Within : List Edge → ℕ → Type 0
-Within es n = (k : ℕ) → k < length es → (lo (getD es k (edge 0 0)) < n) × (hi (getD es k (edge 0 0)) < n)
-
--- no edge stands twice
-abbrev pub Distinct : List Edge → Type 0
-Distinct es = (i j : ℕ) → i < length es → j < length es → getD es i (edge 0 0) ≡ getD es j (edge 0 0) → i ≡ j
+use Rattle.weld.specs.Weld.{Simple, Within, Distinct}
 
 -- ---- the same edge
 pub same-eq : (e f : Edge) → same e f ≡ true → e ≡ f

@@ -8,9 +8,8 @@ use native.Mathlib.Omega.{arith}
 use lib.ListN.{length, getD, set, take}
 use lib.Seq.{getD-take, length-take-le, slice, slice-cons, slice-empty, take-suc-set}
 use borrow.Author.Tests.{eq-eqb, ne-eqb}
-use Rattle.weld.specs.Weld.{Edge, edge, same, between, listed, addEdge}
+use Rattle.weld.specs.Weld.{Edge, edge, same, between, listed, addEdge, Within}
 use Rattle.weld.specs.Code.{Added, edgesOf}
-use Rattle.weld.proofs.Edges.{Within}
 
 pub edges-length : (xs ys : List ℕ) → length xs ≡ length ys → length (edgesOf xs ys) ≡ length xs
 edges-length [] ys h = refl

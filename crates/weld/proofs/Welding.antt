@@ -10,9 +10,9 @@ use lib.Seq.{drop-cons}
 use Rattle.vector.specs.Vector.{Vector}
 use Rattle.vector.specs.Rows.{noSeg, row, rows, seg, segs}
 use Rattle.vector.proofs.Rows.{drop-later, rows-length, segs-getD, segs-length}
-use Rattle.weld.specs.Weld.{push, pointsFrom, becomes, edgesFrom, weldedPoints, listedEdges}
+use Rattle.weld.specs.Weld.{push, pointsFrom, becomes, edgesFrom, weldedPoints, listedEdges, Within}
 use Rattle.weld.specs.Code.{Added, Became, Joined, Welds, edgesOf}
-use Rattle.weld.proofs.Edges.{Within, listed-within, pushes}
+use Rattle.weld.proofs.Edges.{listed-within, pushes}
 use Rattle.weld.proofs.Points.{became-few}
 use Rattle.weld.proofs.Lists.{edges-below, edges-count, edges-take}
 

@@ -1,9 +1,10 @@
 -- Welding: the points that the ends of segments become, and the edges between them. Definitions only.
+use mathlib.Core.Path.{_≡_}
 use mathlib.Core.List.{List, [], _∷_, _++_}
-use mathlib.Core.Bool.{Bool, true, false, _&&_, _||_, cond}
-use Prim.Native.Nat.{ℕ, zero, suc, min, max}
+use mathlib.Core.Bool.{Bool, false, _&&_, _||_, cond}
+use Prim.Native.Nat.{ℕ, zero, suc, _<_, min, max}
 use lib.Dec.{eqb, ltb}
-use lib.ListN.{length}
+use lib.ListN.{length, getD}
 use lib.Ieee.{Float, le, add, sub, mul}
 use Rattle.vector.specs.Vector.{Vector, dist2}
 use Rattle.vector.specs.Rows.{Seg, seg}
@@ -73,3 +74,17 @@ weldedPoints t ss = pointsFrom t ss []
 
 abbrev pub listedEdges : Float → List Seg → List Edge
 listedEdges t ss = edgesFrom (becomes t ss []) []
+
+-- ---- what holds of the listed edges
+
+-- each has its smaller point first
+abbrev pub Simple : List Edge → Type 0
+Simple es = (k : ℕ) → k < length es → lo (getD es k (edge 0 0)) < hi (getD es k (edge 0 0))
+
+-- each is between two of n points
+abbrev pub Within : List Edge → ℕ → Type 0
+Within es n = (k : ℕ) → k < length es → (lo (getD es k (edge 0 0)) < n) × (hi (getD es k (edge 0 0)) < n)
+
+-- none stands twice
+abbrev pub Distinct : List Edge → Type 0
+Distinct es = (i j : ℕ) → i < length es → j < length es → getD es i (edge 0 0) ≡ getD es j (edge 0 0) → i ≡ j
