@@ -321,7 +321,8 @@ pub fn read_space_cell(
 // A cell in the plane: its corners' coordinates go to `out`, which a refusal leaves as it is.
 pub fn read_plane_cell(t: u8, conn: &[u64], xs: &[f64], out: &mut [f64]) -> Reading
     requires { ⌜ 2 * planeMost t ≤ length (now out) ⌝ }
-    ensures { λ r. ⌜ Gave (planeCell t (now (conn .entry)) (now (xs .entry))) r (now (out .entry)) (now (out .exit)) ⌝ }
+    ensures { λ r. ⌜ Gave (planeCell t (now (conn .entry)) (now (xs .entry))) r (now (out .entry))
+        (now (out .exit)) ⌝ }
 {
     let InPlane::Known(k) = PlaneType::of_number(t) else {
         return Reading::Refused(1);
@@ -341,7 +342,8 @@ const RING: [u8; 4] = [0, 1, 2, 3];
 // The corners of a plane cell, its first n nodes, with their coordinates.
 fn cell_polygon(n: usize, conn: &[u64], xs: &[f64], out: &mut [f64]) -> Reading
     requires { ⌜ (n ≤ length (now conn)) × (n ≤ 256) × (2 * n ≤ length (now out)) ⌝ }
-    ensures { λ r. ⌜ Gave (readFaces 2 (now (conn .entry)) (now (xs .entry)) (polygonOf n)) r (now (out .entry)) (now (out .exit)) ⌝ }
+    ensures { λ r. ⌜ Gave (readFaces 2 (now (conn .entry)) (now (xs .entry)) (polygonOf n)) r (now (out .entry))
+        (now (out .exit)) ⌝ }
 {
     if n <= 4 {
         return gather_polygon(&RING[..n], conn, xs, out);
@@ -366,7 +368,8 @@ fn list_pgon(n: usize, corners: &mut [u8; 256])
 // The polygon whose corners' positions are given: refusal 4, or their coordinates written.
 fn gather_polygon(corners: &[u8], conn: &[u64], xs: &[f64], out: &mut [f64]) -> Reading
     requires { ⌜ Gathers 2 (now conn) (now corners) (now out) ⌝ }
-    ensures { λ r. ⌜ ReadsPolygon (now (corners .entry)) (now (conn .entry)) (now (xs .entry)) r (now (out .entry)) (now (out .exit)) ⌝ }
+    ensures { λ r. ⌜ ReadsPolygon (now (corners .entry)) (now (conn .entry)) (now (xs .entry)) r (now (out .entry))
+        (now (out .exit)) ⌝ }
 {
     if gather(2, conn, xs, corners, out) {
         return Reading::Cell {
@@ -459,7 +462,8 @@ const SEPARATOR: u64 = 0xffff_ffff_ffff_ffff;
 // The kept faces of a polyhedron: the positions between separators, without faces of under three.
 fn list_phed(conn: &[u64], corners: &mut [u8; 256], totals: &mut [usize; 85]) -> Listing
     requires { ⌜ (length (now conn) ≤ 256) × (length (now corners) ≡ 256) × (length (now totals) ≡ 85) ⌝ }
-    ensures { λ r. ⌜ Listed (kept (stretches 0 (now (conn .entry)))) (r .corners) (r .faces) (now (corners .exit)) (now (totals .exit)) ⌝ }
+    ensures { λ r. ⌜ Listed (kept (stretches 0 (now (conn .entry)))) (r .corners) (r .faces) (now (corners .exit))
+        (now (totals .exit)) ⌝ }
 {
     let mut n = 0;
     let mut start = 0;
@@ -534,7 +538,8 @@ fn put(out: &mut [usize], table: &[usize])
 // of `out`. The test comes first, so that a refusal leaves `out` as it is.
 fn gather(w: usize, conn: &[u64], xs: &[f64], corners: &[u8], out: &mut [f64]) -> bool
     requires { ⌜ Gathers w (now conn) (now corners) (now out) ⌝ }
-    ensures { λ r. ⌜ Gathered w (now (conn .entry)) (now (xs .entry)) (now (corners .entry)) r (now (out .entry)) (now (out .exit)) ⌝ }
+    ensures { λ r. ⌜ Gathered w (now (conn .entry)) (now (xs .entry)) (now (corners .entry)) r (now (out .entry))
+        (now (out .exit)) ⌝ }
 {
     if are_rows(conn, corners, xs.len() / w) {
         copy_rows(w, conn, xs, corners, out);
@@ -560,8 +565,10 @@ fn are_rows(conn: &[u64], corners: &[u8], rows: usize) -> bool
 
 // The corners' rows, one after the other.
 fn copy_rows(w: usize, conn: &[u64], xs: &[f64], corners: &[u8], out: &mut [f64])
-    requires { ⌜ Gathers w (now conn) (now corners) (now out) × T (areRows (now conn) (length (now xs) / w) (now corners)) ⌝ }
-    ensures { λ _. ⌜ now (out .exit) ≡ over (gathered w (now (conn .entry)) (now (xs .entry)) (now (corners .entry))) (now (out .entry)) ⌝ }
+    requires { ⌜ Gathers w (now conn) (now corners) (now out) × T
+        (areRows (now conn) (length (now xs) / w) (now corners)) ⌝ }
+    ensures { λ _. ⌜ now (out .exit) ≡ over (gathered w (now (conn .entry)) (now (xs .entry)) (now (corners .entry)))
+        (now (out .entry)) ⌝ }
 {
     let mut j = 0;
     while j < corners.len() {
@@ -584,7 +591,8 @@ fn node(conn: &[u64], p: u8) -> usize
 // The numbers of `from` written at `at`.
 fn copy(out: &mut [f64], at: usize, from: &[f64])
     requires { ⌜ at + length (now from) ≤ length (now out) ⌝ }
-    ensures { λ _. ⌜ now (out .exit) ≡ paste (now (out .entry)) at (now (from .entry)) (length (now (from .entry))) ⌝ }
+    ensures { λ _. ⌜ now (out .exit) ≡ paste (now (out .entry)) at (now (from .entry))
+        (length (now (from .entry))) ⌝ }
 {
     let mut j = 0;
     while j < from.len() {

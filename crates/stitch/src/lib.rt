@@ -13,7 +13,8 @@ ghost use Rattle.vector.specs.View.{vec2};
 ghost use Rattle.weld.specs.Code.{edgesOf};
 ghost use Rattle.stitch.specs.Walk.{clamp, cosineTo, nextEdge, pointAt, straightest, walkFrom, walks};
 ghost use Rattle.stitch.specs.Stitch.{cross2, kindOf, signedArea, turned};
-ghost use Rattle.stitch.specs.Code.{Arrived, Below, Counting, Ends, Finished, Finishing, FirstFrom, Lent, Ready, Spare, Stitches, Turn, Went, Wrote};
+ghost use Rattle.stitch.specs.Code.{Arrived, Below, Counting, Ends, Finished, Finishing, FirstFrom, Lent};
+ghost use Rattle.stitch.specs.Code.{Ready, Spare, Stitches, Turn, Went, Wrote};
 ghost use Rattle.stitch.specs.Code.{ahead, better, cosineFor, edgesIn};
 use vector::Vec2;
 
@@ -41,7 +42,8 @@ pub fn stitch_segments(
     ends: &mut [u32],
 ) -> Stitched
     requires { ⌜ Lent s (now segments) (now points) (now nodes) (now ends) ⌝ }
-    ensures { λ r. ⌜ Stitches (mul binary64 tol tol) (segs 2 s (now (segments .entry))) r (now (points .entry)) (now (points .exit)) (now (nodes .entry)) (now (nodes .exit)) (now (ends .entry)) (now (ends .exit)) ⌝ }
+    ensures { λ r. ⌜ Stitches (mul binary64 tol tol) (segs 2 s (now (segments .entry))) r (now (points .entry))
+        (now (points .exit)) (now (nodes .entry)) (now (nodes .exit)) (now (ends .entry)) (now (ends .exit)) ⌝ }
 {
     let mut smaller = [0u32; 384];
     let mut larger = [0u32; 384];
@@ -74,8 +76,10 @@ fn stitch_within(
     used: &mut [bool],
     walked: &mut [u32],
 ) -> Stitched
-    requires { ⌜ Lent s (now segments) (now points) (now nodes) (now ends) × (length (now smaller) ≡ 384) × (length (now larger) ≡ 384) × (now used ≡ replicate 384 false) × (length (now walked) ≡ 385) ⌝ }
-    ensures { λ r. ⌜ Stitches tol2 (segs 2 s (now (segments .entry))) r (now (points .entry)) (now (points .exit)) (now (nodes .entry)) (now (nodes .exit)) (now (ends .entry)) (now (ends .exit)) ⌝ }
+    requires { ⌜ Lent s (now segments) (now points) (now nodes) (now ends) × (length (now smaller) ≡ 384)
+        × (length (now larger) ≡ 384) × (now used ≡ replicate 384 false) × (length (now walked) ≡ 385) ⌝ }
+    ensures { λ r. ⌜ Stitches tol2 (segs 2 s (now (segments .entry))) r (now (points .entry)) (now (points .exit))
+        (now (nodes .entry)) (now (nodes .exit)) (now (ends .entry)) (now (ends .exit)) ⌝ }
 {
     let w = weld::weld(segments, s, points, smaller, larger, tol2);
     let m = w.edges;
@@ -122,8 +126,12 @@ fn stitch_edges(
     nodes: &mut [u32],
     ends: &mut [u32],
 ) -> Tally
-    requires { ⌜ Ready n (now points) (now smaller) (now larger) (now used) × Spare (edgesOf (now smaller) (now larger)) (now walked) (now nodes) (now ends) × (now used ≡ replicate (length (now smaller)) false) ⌝ }
-    ensures { λ r. ⌜ Wrote (rows 2 n (now (points .entry))) tol2 (length (now (smaller .entry))) (walks (rows 2 n (now (points .entry))) (edgesOf (now (smaller .entry)) (now (larger .entry)))) r (now (nodes .entry)) (now (nodes .exit)) (now (ends .entry)) (now (ends .exit)) ⌝ }
+    requires { ⌜ Ready n (now points) (now smaller) (now larger) (now used)
+        × Spare (edgesOf (now smaller) (now larger)) (now walked) (now nodes) (now ends)
+        × (now used ≡ replicate (length (now smaller)) false) ⌝ }
+    ensures { λ r. ⌜ Wrote (rows 2 n (now (points .entry))) tol2 (length (now (smaller .entry)))
+        (walks (rows 2 n (now (points .entry))) (edgesOf (now (smaller .entry)) (now (larger .entry)))) r
+        (now (nodes .entry)) (now (nodes .exit)) (now (ends .entry)) (now (ends .exit)) ⌝ }
 {
     let mut t = Tally {
         nodes: 0,
@@ -165,8 +173,12 @@ fn stitch_from(
     k: usize,
     t: Tally,
 ) -> Tally
-    requires { ⌜ Ready n (now points) (now smaller) (now larger) (now used) × Spare (edgesOf (now smaller) (now larger)) (now walked) (now nodes) (now ends) × (k < length (now smaller)) × Counting t (now used) ⌝ }
-    ensures { λ r. ⌜ Turn (rows 2 n (now (points .entry))) (edgesOf (now (smaller .entry)) (now (larger .entry))) tol2 k (getD (now (used .entry)) k true) (now (used .entry)) t (now (nodes .entry)) (now (ends .entry)) (now (used .exit)) r (now (nodes .exit)) (now (ends .exit)) ⌝ }
+    requires { ⌜ Ready n (now points) (now smaller) (now larger) (now used)
+        × Spare (edgesOf (now smaller) (now larger)) (now walked) (now nodes) (now ends) × (k < length (now smaller))
+        × Counting t (now used) ⌝ }
+    ensures { λ r. ⌜ Turn (rows 2 n (now (points .entry))) (edgesOf (now (smaller .entry)) (now (larger .entry))) tol2
+        k (getD (now (used .entry)) k true) (now (used .entry)) t (now (nodes .entry)) (now (ends .entry))
+        (now (used .exit)) r (now (nodes .exit)) (now (ends .exit)) ⌝ }
 {
     if used[k] {
         return t;
@@ -194,8 +206,12 @@ pub fn walk(
     nodes: &mut [u32],
     start_edge: usize,
 ) -> Walked
-    requires { ⌜ Ready n (now points) (now smaller) (now larger) (now used) × («start_edge» < length (now smaller)) × (length (now smaller) < length (now nodes)) × (getD (now used) «start_edge» true ≡ false) ⌝ }
-    ensures { λ r. ⌜ Went (walkFrom (rows 2 n (now (points .entry))) (edgesOf (now (smaller .entry)) (now (larger .entry))) «start_edge» (now (used .entry))) (r .nodes) (r .edges) (r .closed) (now (used .exit)) (now (nodes .exit)) ⌝ }
+    requires { ⌜ Ready n (now points) (now smaller) (now larger) (now used) × («start_edge» < length (now smaller))
+        × (length (now smaller) < length (now nodes)) × (getD (now used) «start_edge» true ≡ false) ⌝ }
+    ensures { λ r. ⌜ Went
+        (walkFrom (rows 2 n (now (points .entry))) (edgesOf (now (smaller .entry)) (now (larger .entry)))
+        «start_edge» (now (used .entry)))
+        (r .nodes) (r .edges) (r .closed) (now (used .exit)) (now (nodes .exit)) ⌝ }
 {
     let start_node = smaller[start_edge];
     used[start_edge] = true;
@@ -250,7 +266,8 @@ fn select_next_edge(
     current: u32,
 ) -> Next
     requires { ⌜ Ready n (now points) (now smaller) (now larger) (now used) × (previous < n) × (current < n) ⌝ }
-    ensures { λ r. ⌜ r ≡ nextEdge (rows 2 n (now (points .entry))) (edgesOf (now (smaller .entry)) (now (larger .entry))) (now (used .entry)) previous current ⌝ }
+    ensures { λ r. ⌜ r ≡ nextEdge (rows 2 n (now (points .entry)))
+        (edgesOf (now (smaller .entry)) (now (larger .entry))) (now (used .entry)) previous current ⌝ }
 {
     let first = first_available(smaller, larger, used, current, 0);
     if first == smaller.len() {
@@ -266,8 +283,10 @@ fn select_next_edge(
 
 // The first unused edge at current, from edge k on; the number of edges where there is none.
 fn first_available(smaller: &[u32], larger: &[u32], used: &[bool], current: u32, k: usize) -> usize
-    requires { ⌜ (length (now smaller) ≡ length (now larger)) × (length (now used) ≡ length (now smaller)) × (k ≤ length (now smaller)) ⌝ }
-    ensures { λ r. ⌜ FirstFrom current (edgesOf (now (smaller .entry)) (now (larger .entry))) (now (used .entry)) k r ⌝ }
+    requires { ⌜ (length (now smaller) ≡ length (now larger)) × (length (now used) ≡ length (now smaller))
+        × (k ≤ length (now smaller)) ⌝ }
+    ensures { λ r. ⌜ FirstFrom current (edgesOf (now (smaller .entry)) (now (larger .entry))) (now (used .entry)) k
+        r ⌝ }
 {
     let mut j = k;
     while j < smaller.len() {
@@ -380,8 +399,13 @@ fn straightest(
     first: usize,
     second: usize,
 ) -> usize
-    requires { ⌜ Ready n (now points) (now smaller) (now larger) (now used) × (first < length (now smaller)) × (second < length (now smaller)) ⌝ }
-    ensures { λ r. ⌜ r ≡ straightest (cosineFor arrival (rows 2 n (now (points .entry))) (edgesOf (now (smaller .entry)) (now (larger .entry)))) first (cosineFor arrival (rows 2 n (now (points .entry))) (edgesOf (now (smaller .entry)) (now (larger .entry))) first) (ahead (arrival .node) (edgesOf (now (smaller .entry)) (now (larger .entry))) (now (used .entry)) second) ⌝ }
+    requires { ⌜ Ready n (now points) (now smaller) (now larger) (now used) × (first < length (now smaller))
+        × (second < length (now smaller)) ⌝ }
+    ensures { λ r. ⌜ r ≡ straightest
+        (cosineFor arrival (rows 2 n (now (points .entry))) (edgesOf (now (smaller .entry)) (now (larger .entry))))
+        first
+        (cosineFor arrival (rows 2 n (now (points .entry))) (edgesOf (now (smaller .entry)) (now (larger .entry))) first)
+        (ahead (arrival .node) (edgesOf (now (smaller .entry)) (now (larger .entry))) (now (used .entry)) second) ⌝ }
 {
     let mut best = Best {
         edge: first,
@@ -405,7 +429,8 @@ fn cosine_along(
     k: usize,
 ) -> f64
     requires { ⌜ Ends n (now points) (now smaller) (now larger) × (k < length (now smaller)) ⌝ }
-    ensures { λ r. ⌜ r ≡ cosineFor arrival (rows 2 n (now (points .entry))) (edgesOf (now (smaller .entry)) (now (larger .entry))) k ⌝ }
+    ensures { λ r. ⌜ r ≡ cosineFor arrival (rows 2 n (now (points .entry)))
+        (edgesOf (now (smaller .entry)) (now (larger .entry))) k ⌝ }
 {
     let next = other_end(smaller[k], larger[k], arrival.node);
     arrival.cosine(vector::point2(points, wide(next)))
@@ -423,7 +448,11 @@ fn finish(
     t: Tally,
 ) -> Tally
     requires { ⌜ Finishing n (now points) (now walked) closed t (now nodes) (now ends) ⌝ }
-    ensures { λ r. ⌜ Finished (kindOf closed (lt tol2 (abs (signedArea (rows 2 n (now (points .entry))) (now (walked .entry)))))) (turned (rows 2 n (now (points .entry))) (now (walked .entry))) (edgesIn closed (length (now (walked .entry)))) t (now (nodes .entry)) (now (ends .entry)) r (now (nodes .exit)) (now (ends .exit)) ⌝ }
+    ensures { λ r. ⌜ Finished
+        (kindOf closed (lt tol2 (abs (signedArea (rows 2 n (now (points .entry))) (now (walked .entry))))))
+        (turned (rows 2 n (now (points .entry))) (now (walked .entry)))
+        (edgesIn closed (length (now (walked .entry)))) t (now (nodes .entry)) (now (ends .entry)) r
+        (now (nodes .exit)) (now (ends .exit)) ⌝ }
 {
     let m = walked.len();
     if !closed {
@@ -471,7 +500,8 @@ fn signed_area(points: &[f64], n: usize, nodes: &[u32]) -> f64
 // The cross product of the points a and b.
 fn cross_at(points: &[f64], n: usize, a: u32, b: u32) -> f64
     requires { ⌜ (2 * n ≤ length (now points)) × (a < n) × (b < n) ⌝ }
-    ensures { λ r. ⌜ r ≡ cross2 (pointAt (rows 2 n (now (points .entry))) a) (pointAt (rows 2 n (now (points .entry))) b) ⌝ }
+    ensures { λ r. ⌜ r ≡ cross2 (pointAt (rows 2 n (now (points .entry))) a)
+        (pointAt (rows 2 n (now (points .entry))) b) ⌝ }
 {
     let p = vector::point2(points, wide(a));
     let q = vector::point2(points, wide(b));
@@ -481,7 +511,8 @@ fn cross_at(points: &[f64], n: usize, a: u32, b: u32) -> f64
 // Writes the nodes of a loop from `at` on, reversed as a whole if asked.
 fn put_loop(out: &mut [u32], at: usize, nodes: &[u32], reversed: bool)
     requires { ⌜ at + length (now nodes) ≤ length (now out) ⌝ }
-    ensures { λ _. ⌜ now (out .exit) ≡ paste (now (out .entry)) at (cond reversed (reverse (now (nodes .entry))) (now (nodes .entry))) (length (now (nodes .entry))) ⌝ }
+    ensures { λ _. ⌜ now (out .exit) ≡ paste (now (out .entry)) at
+        (cond reversed (reverse (now (nodes .entry))) (now (nodes .entry))) (length (now (nodes .entry))) ⌝ }
 {
     if reversed {
         put_reversed(out, at, nodes);
@@ -492,7 +523,8 @@ fn put_loop(out: &mut [u32], at: usize, nodes: &[u32], reversed: bool)
 
 fn put_nodes(out: &mut [u32], at: usize, nodes: &[u32])
     requires { ⌜ at + length (now nodes) ≤ length (now out) ⌝ }
-    ensures { λ _. ⌜ now (out .exit) ≡ paste (now (out .entry)) at (now (nodes .entry)) (length (now (nodes .entry))) ⌝ }
+    ensures { λ _. ⌜ now (out .exit) ≡ paste (now (out .entry)) at (now (nodes .entry))
+        (length (now (nodes .entry))) ⌝ }
 {
     let mut j = 0;
     while j < nodes.len() {
@@ -503,7 +535,8 @@ fn put_nodes(out: &mut [u32], at: usize, nodes: &[u32])
 
 fn put_reversed(out: &mut [u32], at: usize, nodes: &[u32])
     requires { ⌜ at + length (now nodes) ≤ length (now out) ⌝ }
-    ensures { λ _. ⌜ now (out .exit) ≡ paste (now (out .entry)) at (reverse (now (nodes .entry))) (length (now (nodes .entry))) ⌝ }
+    ensures { λ _. ⌜ now (out .exit) ≡ paste (now (out .entry)) at (reverse (now (nodes .entry)))
+        (length (now (nodes .entry))) ⌝ }
 {
     let mut j = 0;
     while j < nodes.len() {

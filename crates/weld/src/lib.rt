@@ -24,7 +24,8 @@ pub fn weld(
     tol2: f64,
 ) -> Welded
     requires { ⌜ Lent s (now segments) (now points) (now smaller) (now larger) ⌝ }
-    ensures { λ r. ⌜ Welds tol2 (now (segments .entry)) s (now (points .entry)) (r .points) (r .edges) (now (points .exit)) (now (smaller .exit)) (now (larger .exit)) ⌝ }
+    ensures { λ r. ⌜ Welds tol2 (now (segments .entry)) s (now (points .entry)) (r .points) (r .edges)
+        (now (points .exit)) (now (smaller .exit)) (now (larger .exit)) ⌝ }
 {
     let mut welded = Welded {
         points: 0,
@@ -48,8 +49,12 @@ fn weld_segment(
     welded: Welded,
     tol2: f64,
 ) -> Welded
-    requires { ⌜ (4 * i + 3 < length (now segments)) × (2 * welded .points + 3 < length (now points)) × (welded .points + 1 < 2 ^ 32) × (welded .edges < length (now smaller)) × (length (now smaller) ≡ length (now larger)) ⌝ }
-    ensures { λ r. ⌜ Joined (row 2 (now (segments .entry)) (2 * i)) (row 2 (now (segments .entry)) (2 * i + 1)) tol2 (welded .points) (now (points .entry)) (welded .edges) (now (smaller .entry)) (now (larger .entry)) (r .points) (now (points .exit)) (r .edges) (now (smaller .exit)) (now (larger .exit)) ⌝ }
+    requires { ⌜ (4 * i + 3 < length (now segments)) × (2 * welded .points + 3 < length (now points))
+        × (welded .points + 1 < 2 ^ 32) × (welded .edges < length (now smaller))
+        × (length (now smaller) ≡ length (now larger)) ⌝ }
+    ensures { λ r. ⌜ Joined (row 2 (now (segments .entry)) (2 * i)) (row 2 (now (segments .entry)) (2 * i + 1)) tol2
+        (welded .points) (now (points .entry)) (welded .edges) (now (smaller .entry)) (now (larger .entry))
+        (r .points) (now (points .exit)) (r .edges) (now (smaller .exit)) (now (larger .exit)) ⌝ }
 {
     let p = vector::point2(segments, 2 * i);
     let q = vector::point2(segments, 2 * i + 1);
@@ -105,7 +110,8 @@ fn find(points: &[f64], n: usize, p: Vec2, tol2: f64) -> usize
 // Adds the edge between points a and b to the m edges, unless they are one point or it is listed already.
 fn add_edge(smaller: &mut [u32], larger: &mut [u32], m: usize, a: u32, b: u32) -> usize
     requires { ⌜ (m < length (now smaller)) × (length (now smaller) ≡ length (now larger)) ⌝ }
-    ensures { λ r. ⌜ Added a b m (now (smaller .entry)) (now (larger .entry)) r (now (smaller .exit)) (now (larger .exit)) ⌝ }
+    ensures { λ r. ⌜ Added a b m (now (smaller .entry)) (now (larger .entry)) r (now (smaller .exit))
+        (now (larger .exit)) ⌝ }
 {
     if a == b {
         return m;
@@ -122,7 +128,8 @@ fn add_edge(smaller: &mut [u32], larger: &mut [u32], m: usize, a: u32, b: u32) -
 // Whether e is one of the m edges.
 fn listed(smaller: &[u32], larger: &[u32], m: usize, e: Ends) -> bool
     requires { ⌜ (m ≤ length (now smaller)) × (length (now smaller) ≡ length (now larger)) ⌝ }
-    ensures { λ r. ⌜ r ≡ listed (edge (e .smaller) (e .larger)) (take m (edgesOf (now (smaller .entry)) (now (larger .entry)))) ⌝ }
+    ensures { λ r. ⌜ r ≡ listed (edge (e .smaller) (e .larger))
+        (take m (edgesOf (now (smaller .entry)) (now (larger .entry)))) ⌝ }
 {
     let mut j = 0;
     while j < m {
