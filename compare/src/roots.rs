@@ -1,5 +1,6 @@
 //! Patterns of f64 on which a square root is likely to be wrong, and their comparison.
 
+use crate::numbers::same;
 use crate::random::Random;
 
 /// A root of an f64.
@@ -142,11 +143,6 @@ fn special_values(_: u64, visit: &mut dyn FnMut(u64)) {
     }
 }
 
-/// Whether two results are the same, all NaN alike.
-pub fn alike(a: f64, b: f64) -> bool {
-    a.to_bits() == b.to_bits() || (a.is_nan() && b.is_nan())
-}
-
 /// What a group's comparison found: how many patterns, how many differences, and the first of them.
 pub struct Found {
     pub patterns: u64,
@@ -164,7 +160,7 @@ pub fn compare(group: &Group, n: u64, ours: Root, theirs: Root) -> Found {
     (group.1)(n, &mut |bits| {
         let x = f64::from_bits(bits);
         found.patterns += 1;
-        if !alike(ours(x), theirs(x)) {
+        if !same(ours(x), theirs(x)) {
             found.differing += 1;
             found.first.get_or_insert(bits);
         }

@@ -1,0 +1,50 @@
+-- `trial::trial_plane_frame` meets its contract. Assumes nothing.
+use mathlib.Core.Path.{refl}
+use native.Mathlib.Omega.{arith}
+use Rattle.vector.specs.Vector.{planeOf}
+use Rattle.trial.proofs.Trial.{frame-by-rows, it-fits, it-does-not-fit}
+use borrow.Author.Needs.{needs}
+use Rattle.trial.proofs.trial_plane_frame.Statement.{statement}
+use Rattle.trial.proofs.trial_plane_frame.Tie as tie
+
+returns : tie.Need-returns
+returns c = it-does-not-fit (λ f. omega arith) (refl, refl)
+
+returns-2 : tie.Need-returns-2
+returns-2 c = it-does-not-fit (λ f. omega arith) (refl, refl)
+
+point3-requires : tie.Need-point3-requires
+point3-requires c κs = search needs
+
+point3-requires-2 : tie.Need-point3-requires-2
+point3-requires-2 c κs = search needs
+
+new-requires : tie.Need-new-requires
+new-requires c κs = search needs
+
+put-frame-requires : tie.Need-put-frame-requires
+put-frame-requires c κs = search needs
+
+same-length : tie.Need-same-length
+same-length c = search needs
+
+returns-3 : tie.Need-returns-3
+returns-3 c =
+    it-fits (omega arith, omega arith) (frame-by-rows planeOf
+    (c .before .before .before .before .before .before .before .before .before .before .before .args .placed .now) _ _
+    (c .before .before .before .before .before .before .point3 .ensures)
+    (c .before .before .before .before .before .point32 .ensures) (c .before .before .before .before .new .ensures)
+    (c .before .before .put-frame .ensures))
+
+pub trial-plane-frame-spec : {M : Type 1} → statement M
+trial-plane-frame-spec =
+    tie.close
+    (tie.spec
+    returns
+    returns-2
+    point3-requires
+    point3-requires-2
+    new-requires
+    put-frame-requires
+    same-length
+    returns-3)

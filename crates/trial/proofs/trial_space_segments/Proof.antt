@@ -1,0 +1,44 @@
+-- `trial::trial_space_segments` meets its contract. Assumes nothing.
+use mathlib.Core.Path.{refl}
+use native.Mathlib.Omega.{arith}
+use Rattle.trial.proofs.Trial.{it-fits, it-does-not-fit}
+use borrow.Author.Needs.{needs}
+use Rattle.trial.proofs.trial_space_segments.Statement.{statement}
+use Rattle.trial.proofs.trial_space_segments.Tie as tie
+
+returns : tie.Need-returns
+returns c = it-does-not-fit (λ f. omega arith) (refl, refl)
+
+returns-2 : tie.Need-returns-2
+returns-2 c = it-does-not-fit (λ f. omega arith) (refl, refl)
+
+mul-if3 : tie.Need-mul-if3
+mul-if3 c = search needs
+
+mul-if3-2 : tie.Need-mul-if3-2
+mul-if3-2 c = search needs
+
+returns-3 : tie.Need-returns-3
+returns-3 c = it-does-not-fit (λ f. omega arith) (refl, refl)
+
+space-segments-requires : tie.Need-space-segments-requires
+space-segments-requires c κs = search needs
+
+same-length : tie.Need-same-length
+same-length c = search needs
+
+returns-4 : tie.Need-returns-4
+returns-4 c = it-fits (omega arith, omega arith, omega arith) (c .before .before .space-segments .ensures)
+
+pub trial-space-segments-spec : {M : Type 1} → statement M
+trial-space-segments-spec =
+    tie.close
+    (tie.spec
+    returns
+    returns-2
+    mul-if3
+    mul-if3-2
+    returns-3
+    space-segments-requires
+    same-length
+    returns-4)
