@@ -8,7 +8,8 @@ use std::hint::black_box;
 fn main() {
     println!("nanoseconds a list                proved     Rust");
     compared("the brick's 4 segments", 1_000_000, &brick());
-    compared("ring of 36", 100_000, &ring(36));
+    compared("ring of 24", 200_000, &ring(24));
+    compared("ring of 96", 40_000, &ring(96));
     compared("ring of 384", 4_000, &ring(384));
 }
 

@@ -106,7 +106,7 @@ pub record ClaimOf (t : Float) (ss : List Seg) (es : List Edge) (ws : List Walk)
   pub loops-three : All (λ l. 3 ≤ length l) (a .loops)
   -- a listed edge joins any two cyclic neighbours in it
   pub neighbours : All (λ l. All (λ e. listed e es ≡ true) (sides l)) (a .loops)
-  -- no listed edge is used a second time in any loop returned
+  -- no listed edge is used a second time in any loop returned, counted over all loops together
   pub unrepeated : (e : Edge) → timesEdge e (sidesOf (a .loops)) ≤ 1
   -- the four counts are those of the listed edges and of the edges in loops, flat walks and open walks
   pub counts-are : a .counts ≡ countsOf (a .points) t (length es) ws

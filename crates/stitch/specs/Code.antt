@@ -31,7 +31,7 @@ pub record Ends (n : ℕ) (points : List Float) (smaller larger : List ℕ) : Ty
   pub same : length smaller ≡ length larger
   pub within : (k : ℕ) → k < length smaller → (getD smaller k 0 < n) × (getD larger k 0 < n)
 
--- and a mark for each edge
+-- the same with a mark for each edge
 pub record Ready (n : ℕ) (points : List Float) (smaller larger : List ℕ) (used : List Bool) : Type 0 where
   pub ends : Ends n points smaller larger
   pub marks : length used ≡ length smaller
@@ -109,17 +109,19 @@ pub record Finishing (n : ℕ) (points : List Float) (walked : List ℕ) (closed
   pub room : 2 * n ≤ length points
   pub some : 0 < length walked
   pub below : Below n walked
+  -- so that no sum of counts wraps
   pub small : t .nodes + t .flat + t .opened + length walked < 65536
   pub nodes-room : closed ≡ true → t .nodes + length walked ≤ length nodes
   pub ends-room : closed ≡ true → t .loops < length ends
 
 -- ---- all walks
 
--- the edges es are those of welding, few, and there is room for their walks
+-- the edges es are few, with the smaller point first and none twice, and there is room for their walks
 pub record Spare (es : List Edge) (walked nodes ends : List ℕ) : Type 0 where
   pub simple : Simple es
   pub distinct : Distinct es
   pub few : length es ≤ 384
+  -- an open walk of all edges has one node more
   pub walked-room : length es < length walked
   pub nodes-room : length es ≤ length nodes
   pub ends-room : length es / 3 ≤ length ends

@@ -1,4 +1,4 @@
--- What a walk is, and the answer of stitching: points, loops and the four counts of document 01. Definitions only.
+-- Which walks are loops, and the answer of stitching: points, loops and the four counts of document 01. Definitions only.
 use mathlib.Core.List.{List, [], _∷_, reverse}
 use mathlib.Core.Bool.{Bool, true, false, cond}
 use Prim.Native.Nat.{ℕ, _+_}
@@ -8,11 +8,12 @@ use lib.Ieee.{Float, fin, binary64, add, sub, mul, div, lt}
 use Rattle.vector.specs.Number.{f0, abs}
 use Rattle.vector.specs.Vector.{Vector, at}
 use Rattle.vector.specs.Rows.{Seg}
-use Rattle.weld.specs.Weld.{Edge, pointsFrom, becomes, listed, edgesFrom, weldedPoints, listedEdges}
+use Rattle.weld.specs.Weld.{Edge, pointsFrom, becomes, edgesFrom, weldedPoints, listedEdges}
 use Rattle.stitch.specs.Walk.{pointAt, Walk, walks, walksFrom}
 
 -- ---- the area of a closed walk
 
+-- 2, by which the sum is divided
 abbrev pub f2 : Float
 f2 = fin false 1 (pos 1)
 
@@ -20,7 +21,7 @@ f2 = fin false 1 (pos 1)
 abbrev pub cross2 : Vector → Vector → Float
 cross2 a b = sub binary64 (mul binary64 (at a 0) (at b 1)) (mul binary64 (at b 0) (at a 1))
 
--- x plus these over neighbours a, b of the list, and over its last node with s
+-- x plus cross2 of each two neighbours in the list of nodes, and then of its last node and s
 unfoldable pub area2From : List Vector → ℕ → List ℕ → Float → Float
 unfolding add sub mul
 area2From ps s [] x = x
@@ -33,6 +34,7 @@ signedArea ps nodes = div binary64 (area2From ps (getD nodes 0 0) nodes f0) f2
 
 -- ---- loop, flat or open
 
+-- what a walk is
 pub data Kind : Type 0 where
   Loop Flat Open : Kind
 
@@ -52,6 +54,7 @@ unfoldable pub turned : List Vector → List ℕ → List ℕ
 unfolding area2From lt div
 turned ps nodes = let r = reverse nodes in cond (lt (signedArea ps nodes) f0) r nodes
 
+-- the list l in front of r, for a loop only
 abbrev pub ifLoop : Kind → List ℕ → List (List ℕ) → List (List ℕ)
 ifLoop Loop l r = l ∷ r
 ifLoop Flat l r = r
@@ -65,6 +68,7 @@ loops ps t (w ∷ ws) = ifLoop (kind ps t w) (turned ps (w .nodes)) (loops ps t 
 
 -- ---- the four counts
 
+-- the listed edges, and those of walks that are loops, flat and open
 pub record Counts : Type 0 where
   pub listed : ℕ
   pub inLoops : ℕ
@@ -85,11 +89,13 @@ countsOf ps t n (w ∷ ws) = counted (kind ps t w) (length (w .edges)) (countsOf
 
 -- ---- the answer
 
+-- the welded points, the node numbers of each loop, and the counts
 pub record Answer : Type 0 where
   pub points : List Vector
   pub loops : List (List ℕ)
   pub counts : Counts
 
+-- the answer that the points ps, the edges es and the walks ws give
 abbrev pub answerOf : Float → List Vector → List Edge → List Walk → Answer
 answerOf t ps es ws = record { points = ps; loops = loops ps t ws; counts = countsOf ps t (length es) ws }
 

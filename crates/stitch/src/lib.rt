@@ -105,8 +105,8 @@ fn stitch_within(
     }
 }
 
-// What the walks so far have given: nodes written, as many as edges in loops, loops, and the edges of
-// flat and of open walks.
+// What the walks so far have given: the nodes of loops, which are as many as their edges; the loops; and
+// the edges of flat and of open walks.
 struct Tally {
     nodes: usize,
     loops: usize,
@@ -436,7 +436,8 @@ fn cosine_along(
     arrival.cosine(vector::point2(points, wide(next)))
 }
 
-// Ends a walk: its nodes are written if it is a loop, and its edges are counted.
+// Ends a walk: its nodes are written if it is a loop, and its edges are counted. A closed walk has three
+// nodes at least (`three` of the claim), so that is not tested.
 fn finish(
     points: &[f64],
     n: usize,
@@ -521,6 +522,7 @@ fn put_loop(out: &mut [u32], at: usize, nodes: &[u32], reversed: bool)
     }
 }
 
+// Writes nodes in their order.
 fn put_nodes(out: &mut [u32], at: usize, nodes: &[u32])
     requires { ⌜ at + length (now nodes) ≤ length (now out) ⌝ }
     ensures { λ _. ⌜ now (out .exit) ≡ paste (now (out .entry)) at (now (nodes .entry))
@@ -533,6 +535,7 @@ fn put_nodes(out: &mut [u32], at: usize, nodes: &[u32])
     }
 }
 
+// Writes nodes from the last to the first.
 fn put_reversed(out: &mut [u32], at: usize, nodes: &[u32])
     requires { ⌜ at + length (now nodes) ≤ length (now out) ⌝ }
     ensures { λ _. ⌜ now (out .exit) ≡ paste (now (out .entry)) at (reverse (now (nodes .entry)))
@@ -545,6 +548,7 @@ fn put_reversed(out: &mut [u32], at: usize, nodes: &[u32])
     }
 }
 
+// A node number as an index.
 fn wide(x: u32) -> usize
     ensures { λ r. ⌜ r ≡ x ⌝ }
 {
