@@ -64,14 +64,15 @@ pub fn cases_asked(program: &str, full: u64) -> u64 {
     })
 }
 
-/// Nanoseconds a call, over this many after some that warm up.
+/// Nanoseconds a call: the least of five turns, which together have this many calls.
 pub fn nanoseconds<T>(rounds: u32, mut work: impl FnMut() -> T) -> f64 {
-    for _ in 0..rounds / 10 {
-        std::hint::black_box(work());
-    }
-    let start = std::time::Instant::now();
-    for _ in 0..rounds {
-        std::hint::black_box(work());
-    }
-    start.elapsed().as_secs_f64() * 1e9 / f64::from(rounds)
+    let calls = rounds / 5;
+    let turn = |_| {
+        let start = std::time::Instant::now();
+        for _ in 0..calls {
+            std::hint::black_box(work());
+        }
+        start.elapsed().as_secs_f64() * 1e9 / f64::from(calls)
+    };
+    (0..5).map(turn).fold(f64::INFINITY, f64::min)
 }

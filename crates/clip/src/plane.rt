@@ -37,7 +37,8 @@ pub enum Clip {
 // Intersection of a polygon of n corners with the cut: its segments, written to out. Gives how many there are.
 //
 // The polygon is clipped to one side of the cut, and the boundary edges that lie on the cut are kept. This
-// handles concave polygons too, and yields one segment per crossing interval.
+// handles concave polygons too, and yields one segment per crossing interval. What the scratch `points` holds
+// afterwards is not said.
 pub fn plane_section_segments(
     poly: &[f64],
     n: usize,

@@ -37,7 +37,8 @@ pub enum Clip {
 }
 
 // A cell of m corners in all, which stand in coords face by face; ends are running totals. Its segments, in the
-// plane's own coordinates, written to out. Gives how many there are.
+// plane's own coordinates, written to out. Gives how many there are. What the scratch `points` and `space` hold
+// afterwards is not said.
 pub fn cell_segments(
     coords: &[f64],
     ends: &[usize],
@@ -117,7 +118,8 @@ fn project_segments(space: &[f64], k: usize, plane: Plane, out: &mut [f64], from
 // Intersection of a polygon of n corners with the cut: its segments, written to out. Gives how many there are.
 //
 // The polygon is clipped to one side of the cut, and the boundary edges that lie on the cut are kept. This
-// handles concave polygons too, and yields one segment per crossing interval.
+// handles concave polygons too, and yields one segment per crossing interval. What the scratch `points` holds
+// afterwards is not said.
 pub fn plane_section_segments(
     poly: &[f64],
     n: usize,

@@ -8,6 +8,7 @@ pub mod Loops
 pub mod Listed
 pub mod Claim
 pub mod Buffers
+pub mod Lasts
 pub mod Scan
 pub mod Walking
 pub mod Output

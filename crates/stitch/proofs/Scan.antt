@@ -2,13 +2,13 @@
 use mathlib.Core.Path.{_≡_, refl, ap, sym, _∙_}
 use mathlib.Core.List.{List, [], _∷_}
 use mathlib.Core.Bool.{Bool, true, false, cond, not, _&&_, _||_}
-use Prim.Native.Nat.{ℕ, _+_, _≤_, _<_}
+use Prim.Native.Nat.{ℕ, suc, _+_, _≤_, _<_}
 use native.Mathlib.Numerals.{add-one}
 use native.Mathlib.Omega.{arith}
 use lib.Dec.{eqb}
 use lib.Ieee.{Float, lt}
-use lib.ListN.{length, getD, drop, drop-of-length-le}
-use lib.Seq.{drop-cons}
+use lib.ListN.{length, getD, drop, length-drop}
+use lib.Seq.{drop-cons, getD-drop}
 use borrow.Author.Tests.{lt-ltb, le-ltb}
 use Rattle.vector.specs.Vector.{Vector, diff, norm}
 use Rattle.vector.specs.View.{vec2}
@@ -18,8 +18,20 @@ use Rattle.weld.proofs.Lists.{edges-length, edges-getD}
 use Rattle.stitch.specs.declared.Next.the-variants as next
 use Rattle.stitch.specs.declared.Arrival.{Arrival}
 use Rattle.stitch.specs.declared.Best.{Best}
-use Rattle.stitch.specs.Walk.{pointAt, edgeAt, noEdge, other, available, cosineTo, straightest, choose, nextEdge, cosineAt}
-use Rattle.stitch.specs.Code.{FirstFrom, Arrived, cosineFor, better, ahead}
+use Rattle.stitch.specs.Walk.{pointAt, edgeAt, noEdge, touches, other, available, cosineTo, straightest, choose, nextEdge, cosineAt}
+use Rattle.stitch.specs.Code.{FirstFrom, Past, Arrived, cosineFor, better, ahead}
+
+none-touching : (c : ℕ) (es : List Edge) (us : List Bool) (k : ℕ) → ((i : ℕ) → i < length es → touches c (getD es i noEdge) ≡ false)
+    → available c es us k ≡ []
+unfolding available
+none-touching c [] us k h = refl
+none-touching c (e ∷ es) [] k h = refl
+none-touching c (e ∷ es) (u ∷ us) k h =
+    rw (h 0 (omega arith), none-touching c es us (suc k) (λ i g. h (suc i) (omega arith))) (neither u)
+  where
+    neither : (u : Bool) → cond (not u && false) (k ∷ []) [] ≡ []
+    neither true = refl
+    neither false = refl
 
 -- the edges that are left at j, after none was found from k on
 abbrev pub Left : ℕ → List ℕ → List ℕ → List Bool → ℕ → ℕ → Type 0
@@ -52,15 +64,20 @@ module _ (c : ℕ) (xs ys : List ℕ) (us : List Bool) (k j : ℕ) (same : lengt
         let l : j < length (edgesOf xs ys) = omega arith in
         record { from = from; inside = omega arith; is = left ∙ step ∙ rw (e, lt-ltb j (length (edgesOf xs ys)) l) }
 
-  pub first-none : length xs ≤ j → j ≤ length xs → FirstFrom c (edgesOf xs ys) us k j
-  unfolding available
-  first-none h m =
+  -- past `end` there is none
+  pub first-none : (end : ℕ) → Past c (edgesOf xs ys) end → end ≤ j → j ≤ length xs → FirstFrom c (edgesOf xs ys) us k (length xs)
+  first-none end past h m =
       let n = count in
-      let l : length (edgesOf xs ys) ≤ j = omega arith in
+      let l : length (edgesOf xs ys) ≤ length xs = omega arith in
       record {
-        from = from;
+        from = omega arith;
         inside = omega arith;
-        is = left ∙ rw (drop-of-length-le (edgesOf xs ys) {i = j} l, le-ltb j (length (edgesOf xs ys)) l);
+        is =
+            left
+            ∙ none-touching c (drop j (edgesOf xs ys)) (drop j us) j
+            (λ i g. ap (touches c) (getD-drop j (edgesOf xs ys) i noEdge)
+            ∙ past (j + i) (omega arith) (omega (arith, length-drop j (edgesOf xs ys))))
+            ∙ rw (le-ltb (length xs) (length (edgesOf xs ys)) l);
       }
 
 -- ---- the straightest

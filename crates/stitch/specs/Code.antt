@@ -13,7 +13,7 @@ use Rattle.vector.specs.Rows.{Seg, rows, over, endsFrom}
 use Rattle.weld.specs.Weld.{Edge, Simple, Distinct}
 use Rattle.stitch.specs.declared.Arrival.{Arrival}
 use Rattle.stitch.specs.declared.Best.{Best}
-use Rattle.stitch.specs.Walk.{pointAt, edgeAt, other, available, cosineTo, Walk, walkFrom}
+use Rattle.stitch.specs.Walk.{pointAt, edgeAt, touches, other, available, cosineTo, Walk, walkFrom}
 use Rattle.stitch.specs.declared.Tally.{Tally}
 use Rattle.stitch.specs.declared.Stitched.{Stitched}
 use Rattle.stitch.specs.Stitch.{Kind, Loop, Flat, Open, kind, turned, loops, countsOf, Answer, stitchedWithin}
@@ -54,6 +54,15 @@ better b k v = cond (lt (b .cosine) v) (record { edge = k; cosine = v }) b
 -- edge k and the unused edges at c after it; none past the last edge
 abbrev pub ahead : ℕ → List Edge → List Bool → ℕ → List ℕ
 ahead c es used k = cond (ltb k (length es)) (k ∷ available c (drop (k + 1) es) (drop (k + 1) used) (k + 1)) []
+
+-- no edge from number `end` on ends at the point c
+abbrev pub Past : ℕ → List Edge → ℕ → Type 0
+Past c es end = (k : ℕ) → end ≤ k → k < length es → touches c (edgeAt es k) ≡ false
+
+-- a number of an edge for each point, after which no edge ends there
+pub record Lasts (es : List Edge) (last : List ℕ) : Type 0 where
+  pub inside : (v : ℕ) → getD last v 0 ≤ length es - 1
+  pub none-after : (v k : ℕ) → getD last v 0 < k → k < length es → touches v (edgeAt es k) ≡ false
 
 -- r is the first unused edge at the point c from edge k on, or the number of edges
 pub record FirstFrom (c : ℕ) (es : List Edge) (used : List Bool) (k r : ℕ) : Type 0 where

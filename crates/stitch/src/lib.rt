@@ -14,7 +14,7 @@ ghost use Rattle.weld.specs.Code.{edgesOf};
 ghost use Rattle.stitch.specs.Walk.{clamp, cosineTo, nextEdge, pointAt, straightest, walkFrom, walks};
 ghost use Rattle.stitch.specs.Stitch.{cross2, kindOf, signedArea, turned};
 ghost use Rattle.stitch.specs.Code.{Arrived, Below, Counting, Ends, Finished, Finishing, FirstFrom, Lent};
-ghost use Rattle.stitch.specs.Code.{Ready, Spare, Stitches, Turn, Went, Wrote};
+ghost use Rattle.stitch.specs.Code.{Lasts, Past, Ready, Spare, Stitches, Turn, Went, Wrote};
 ghost use Rattle.stitch.specs.Code.{ahead, better, cosineFor, edgesIn};
 use vector::Vec2;
 
@@ -128,11 +128,13 @@ fn stitch_edges(
 ) -> Tally
     requires { ⌜ Ready n (now points) (now smaller) (now larger) (now used)
         × Spare (edgesOf (now smaller) (now larger)) (now walked) (now nodes) (now ends)
-        × (now used ≡ replicate (length (now smaller)) false) ⌝ }
+        × (now used ≡ replicate (length (now smaller)) false) × (n ≤ 768) ⌝ }
     ensures { λ r. ⌜ Wrote (rows 2 n (now (points .entry))) tol2 (length (now (smaller .entry)))
         (walks (rows 2 n (now (points .entry))) (edgesOf (now (smaller .entry)) (now (larger .entry)))) r
         (now (nodes .entry)) (now (nodes .exit)) (now (ends .entry)) (now (ends .exit)) ⌝ }
 {
+    let mut last = [0u16; 768];
+    last_edges(smaller, larger, &mut last);
     let mut t = Tally {
         nodes: 0,
         loops: 0,
@@ -151,12 +153,30 @@ fn stitch_edges(
             tol2,
             nodes,
             ends,
+            &last,
             k,
             t,
         );
         k += 1;
     }
     t
+}
+
+// The last edge of each point, by its number.
+fn last_edges(smaller: &[u32], larger: &[u32], last: &mut [u16])
+    requires { ⌜ (length (now smaller) ≡ length (now larger)) × (length (now smaller) ≤ 384)
+        × Below (length (now last)) (now smaller) × Below (length (now last)) (now larger)
+        × (now last ≡ replicate (length (now last)) 0) ⌝ }
+    ensures { λ _. ⌜ Lasts (edgesOf (now (smaller .entry)) (now (larger .entry))) (now (last .exit)) ⌝ }
+{
+    let mut k = 0;
+    while k < smaller.len() {
+        let a = wide(smaller[k]);
+        let b = wide(larger[k]);
+        last[a] = k as u16;
+        last[b] = k as u16;
+        k += 1;
+    }
 }
 
 // Walks from edge k, unless it is used already.
@@ -170,12 +190,13 @@ fn stitch_from(
     tol2: f64,
     nodes: &mut [u32],
     ends: &mut [u32],
+    last: &[u16],
     k: usize,
     t: Tally,
 ) -> Tally
     requires { ⌜ Ready n (now points) (now smaller) (now larger) (now used)
         × Spare (edgesOf (now smaller) (now larger)) (now walked) (now nodes) (now ends) × (k < length (now smaller))
-        × Counting t (now used) ⌝ }
+        × Counting t (now used) × (n ≤ length (now last)) × Lasts (edgesOf (now smaller) (now larger)) (now last) ⌝ }
     ensures { λ r. ⌜ Turn (rows 2 n (now (points .entry))) (edgesOf (now (smaller .entry)) (now (larger .entry))) tol2
         k (getD (now (used .entry)) k true) (now (used .entry)) t (now (nodes .entry)) (now (ends .entry))
         (now (used .exit)) r (now (nodes .exit)) (now (ends .exit)) ⌝ }
@@ -183,7 +204,7 @@ fn stitch_from(
     if used[k] {
         return t;
     }
-    let w = walk(points, n, smaller, larger, used, walked, k);
+    let w = walk(points, n, smaller, larger, used, walked, last, k);
     let count = w.nodes;
     finish(points, n, &walked[..count], w.closed, tol2, nodes, ends, t)
 }
@@ -204,10 +225,12 @@ pub fn walk(
     larger: &[u32],
     used: &mut [bool],
     nodes: &mut [u32],
+    last: &[u16],
     start_edge: usize,
 ) -> Walked
     requires { ⌜ Ready n (now points) (now smaller) (now larger) (now used) × («start_edge» < length (now smaller))
-        × (length (now smaller) < length (now nodes)) × (getD (now used) «start_edge» true ≡ false) ⌝ }
+        × (length (now smaller) < length (now nodes)) × (getD (now used) «start_edge» true ≡ false)
+        × (n ≤ length (now last)) × Lasts (edgesOf (now smaller) (now larger)) (now last) ⌝ }
     ensures { λ r. ⌜ Went
         (walkFrom (rows 2 n (now (points .entry))) (edgesOf (now (smaller .entry)) (now (larger .entry)))
         «start_edge» (now (used .entry)))
@@ -221,6 +244,7 @@ pub fn walk(
     let mut current = larger[start_edge];
     while current != start_node {
         nodes[count] = current;
+        let end = end_at(last, current);
         let Next::Edge(next_edge) = select_next_edge(
             points,
             n,
@@ -229,6 +253,7 @@ pub fn walk(
             used,
             previous,
             current,
+            end,
         ) else {
             return Walked {
                 nodes: count + 1,
@@ -248,6 +273,21 @@ pub fn walk(
     }
 }
 
+// The number after the last edge at current.
+fn end_at(last: &[u16], current: u32) -> usize
+    requires { ⌜ current < length (now last) ⌝ }
+    ensures { λ r. ⌜ r ≡ getD (now (last .entry)) current 0 + 1 ⌝ }
+{
+    after(last[wide(current)])
+}
+
+// The number after x.
+fn after(x: u16) -> usize
+    ensures { λ r. ⌜ r ≡ x + 1 ⌝ }
+{
+    x as usize + 1
+}
+
 // The next edge of a walk, or that no unused edge is left.
 pub enum Next {
     Edge(usize),
@@ -255,7 +295,7 @@ pub enum Next {
 }
 
 // Chooses the next edge of a walk. In the usual degree-2 case the choice is unique, and no root is
-// taken. At a degenerate node, the straightest continuation is used.
+// taken. At a degenerate node, the straightest continuation is used. From `end` on no edge is at current.
 fn select_next_edge(
     points: &[f64],
     n: usize,
@@ -264,38 +304,59 @@ fn select_next_edge(
     used: &[bool],
     previous: u32,
     current: u32,
+    end: usize,
 ) -> Next
-    requires { ⌜ Ready n (now points) (now smaller) (now larger) (now used) × (previous < n) × (current < n) ⌝ }
+    requires { ⌜ Ready n (now points) (now smaller) (now larger) (now used) × (previous < n) × (current < n)
+        × (end ≤ length (now smaller)) × Past current (edgesOf (now smaller) (now larger)) end ⌝ }
     ensures { λ r. ⌜ r ≡ nextEdge (rows 2 n (now (points .entry)))
         (edgesOf (now (smaller .entry)) (now (larger .entry))) (now (used .entry)) previous current ⌝ }
 {
-    let first = first_available(smaller, larger, used, current, 0);
+    let first = first_available(smaller, larger, used, current, 0, end);
     if first == smaller.len() {
         return Next::Nothing;
     }
-    let second = first_available(smaller, larger, used, current, first + 1);
+    let second = first_available(smaller, larger, used, current, first + 1, end);
     if second == smaller.len() {
         return Next::Edge(first);
     }
     let arrival = arrive(points, n, previous, current);
-    Next::Edge(straightest(points, n, smaller, larger, used, arrival, first, second))
+    Next::Edge(straightest(
+        points,
+        n,
+        smaller,
+        larger,
+        used,
+        arrival,
+        first,
+        second,
+        end,
+    ))
 }
 
-// The first unused edge at current, from edge k on; the number of edges where there is none.
-fn first_available(smaller: &[u32], larger: &[u32], used: &[bool], current: u32, k: usize) -> usize
+// The first unused edge at current, from edge k on; the number of edges where there is none. From `end` on no edge
+// ends there.
+fn first_available(
+    smaller: &[u32],
+    larger: &[u32],
+    used: &[bool],
+    current: u32,
+    k: usize,
+    end: usize,
+) -> usize
     requires { ⌜ (length (now smaller) ≡ length (now larger)) × (length (now used) ≡ length (now smaller))
-        × (k ≤ length (now smaller)) ⌝ }
+        × (k ≤ length (now smaller)) × (end ≤ length (now smaller))
+        × Past current (edgesOf (now smaller) (now larger)) end ⌝ }
     ensures { λ r. ⌜ FirstFrom current (edgesOf (now (smaller .entry)) (now (larger .entry))) (now (used .entry)) k
         r ⌝ }
 {
     let mut j = k;
-    while j < smaller.len() {
+    while j < end {
         if is_available(smaller[j], larger[j], current, used[j]) {
             return j;
         }
         j += 1;
     }
-    j
+    smaller.len()
 }
 
 // Whether an edge from a to b ends at c and is unused.
@@ -398,9 +459,11 @@ fn straightest(
     arrival: Arrival,
     first: usize,
     second: usize,
+    end: usize,
 ) -> usize
     requires { ⌜ Ready n (now points) (now smaller) (now larger) (now used) × (first < length (now smaller))
-        × (second < length (now smaller)) ⌝ }
+        × (second < length (now smaller)) × (end ≤ length (now smaller))
+        × Past (arrival .node) (edgesOf (now smaller) (now larger)) end ⌝ }
     ensures { λ r. ⌜ r ≡ straightest
         (cosineFor arrival (rows 2 n (now (points .entry))) (edgesOf (now (smaller .entry)) (now (larger .entry))))
         first
@@ -414,7 +477,7 @@ fn straightest(
     let mut k = second;
     while k < smaller.len() {
         best = best.or(k, cosine_along(points, n, smaller, larger, arrival, k));
-        k = first_available(smaller, larger, used, arrival.node, k + 1);
+        k = first_available(smaller, larger, used, arrival.node, k + 1, end);
     }
     best.edge
 }

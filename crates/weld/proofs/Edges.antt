@@ -9,7 +9,7 @@ use native.Mathlib.Omega.{arith}
 use lib.Dec.{eqb, ltb}
 use lib.Ieee.{Float, le}
 use lib.ListN.{length, getD, length-append}
-use borrow.Author.Tests.{eq-eqb, eqb-true, eqb-false, ltb-true}
+use borrow.Author.Tests.{eq-eqb, ne-eqb, eqb-true, eqb-false, ltb-true}
 use Rattle.vector.specs.Vector.{Vector, dist2}
 use Rattle.vector.specs.Rows.{Seg, seg}
 use Rattle.weld.specs.Weld.{Edge, edge, lo, hi, same, between, listed, find, push, pointsFrom, becomes, addEdge, edgesFrom, weldedPoints, listedEdges}
@@ -138,13 +138,27 @@ unfolding edgesFrom
 edges-distinct [] es d = d
 edges-distinct (edge a b ∷ l) es d = edges-distinct l (addEdge a b es) (add-distinct a b es d)
 
+pub add-within : (a b : ℕ) (es : List Edge) (n : ℕ) → Within es n → a < n → b < n → Within (addEdge a b es) n
+add-within a b es n v x y = add-all a b es (λ e. (lo e < n) × (hi e < n)) v (λ d. (omega arith, omega arith))
+
 edges-within : (l es : List Edge) (n : ℕ) → Within l n → Within es n → Within (edgesFrom l es) n
 unfolding edgesFrom
 edges-within [] es n w v = v
 edges-within (edge a b ∷ l) es n w v =
     let o = w 0 (omega arith) in
-    edges-within l (addEdge a b es) n (λ k h. w (suc k) (omega arith))
-    (add-all a b es (λ e. (lo e < n) × (hi e < n)) v (λ d. (omega arith, omega arith)))
+    edges-within l (addEdge a b es) n (λ k h. w (suc k) (omega arith)) (add-within a b es n v (o .0) (o .1))
+
+-- an edge with a newer point than those of the list is not in it
+pub newer-unlisted : (p q : ℕ) (es : List Edge) (n : ℕ) → Within es n → n ≤ q → listed (edge p q) es ≡ false
+unfolding listed
+newer-unlisted p q [] n w h = refl
+newer-unlisted p q (edge a b ∷ es) n w h =
+    let o = w 0 (omega arith) in
+    rw (ne-eqb q b (λ e. omega arith), newer-unlisted p q es n (λ k l. w (suc k) (omega arith)) h) (and-false (eqb p a))
+  where
+    and-false : (s : Bool) → ((s && false) || false) ≡ false
+    and-false true = refl
+    and-false false = refl
 
 edges-few : (l es : List Edge) → length (edgesFrom l es) ≤ length l + length es
 unfolding edgesFrom

@@ -2,6 +2,7 @@
 use mathlib.Core.Path.{_≡_, refl, ap, sym, _∙_}
 use mathlib.Core.List.{List, [], _∷_}
 use Prim.Native.Nat.{ℕ, _+_, _*_, _≤_, _<_}
+use native.Mathlib.Nat.{not-suc-le-zero}
 use native.Mathlib.Numerals.{add-one}
 use native.Mathlib.Omega.{arith}
 use lib.Ieee.{Float}
@@ -10,9 +11,9 @@ use lib.Seq.{drop-cons}
 use Rattle.vector.specs.Vector.{Vector}
 use Rattle.vector.specs.Rows.{noSeg, row, rows, seg, segs}
 use Rattle.vector.proofs.Rows.{drop-later, rows-length, segs-getD, segs-length}
-use Rattle.weld.specs.Weld.{push, pointsFrom, becomes, edgesFrom, weldedPoints, listedEdges, Within}
+use Rattle.weld.specs.Weld.{find, push, pointsFrom, becomes, edgesFrom, weldedPoints, listedEdges, Within}
 use Rattle.weld.specs.Code.{Added, Became, Joined, Welds, edgesOf}
-use Rattle.weld.proofs.Edges.{listed-within, pushes}
+use Rattle.weld.proofs.Edges.{add-within, pushes}
 use Rattle.weld.proofs.Points.{became-few}
 use Rattle.weld.proofs.Lists.{edges-below, edges-count, edges-take}
 
@@ -39,6 +40,19 @@ module _ {p q : Vector} {t : Float} {n : ℕ} {zs : List Float} {m : ℕ} {xs ys
       let r = rows-length 2 n′ zs′ in
       (omega arith, omega arith)
 
+  -- the edges stay between the points there are
+  pub joined-within : Joined p q t n zs m xs ys n′ zs′ m′ xs′ ys′ → Within (take m (edgesOf xs ys)) n
+      → Within (take m′ (edgesOf xs′ ys′)) n′
+  joined-within j w =
+      let few = joined-few j in
+      let a = pushes p t (rows 2 n zs) in
+      let b = pushes q t (push p t (rows 2 n zs)) in
+      let e = ap length (j .points) in
+      let r = rows-length 2 n′ zs′ in
+      rw (j .edges)
+      (add-within (find p t (rows 2 n zs)) (find q t (push p t (rows 2 n zs))) (take m (edgesOf xs ys)) n′
+      (λ k h. let o = w k h in (omega arith, omega arith)) (omega arith) (omega arith))
+
 -- ---- the loop
 -- n points and m edges so far, and the segments from i on still to be welded
 pub record Welding (t : Float) (ss : List Float) (s : ℕ) (zs₀ : List Float) (room i n m : ℕ) (zs : List Float) (xs ys : List ℕ)
@@ -46,6 +60,7 @@ pub record Welding (t : Float) (ss : List Float) (s : ℕ) (zs₀ : List Float) 
   pub points : weldedPoints t (segs 2 s ss) ≡ pointsFrom t (drop i (segs 2 s ss)) (rows 2 n zs)
   pub edges : listedEdges t (segs 2 s ss) ≡ edgesFrom (becomes t (drop i (segs 2 s ss)) (rows 2 n zs)) (take m (edgesOf xs ys))
   pub rest : drop (2 * n) zs ≡ drop (2 * n) zs₀
+  pub within : Within (take m (edgesOf xs ys)) n
   pub few-points : n ≤ 2 * i
   pub few-edges : m ≤ i
   pub passed : i ≤ s
@@ -60,6 +75,7 @@ welding-start e =
       points = refl;
       edges = refl;
       rest = refl;
+      within = λ k h. absurd (not-suc-le-zero h);
       few-points = omega arith;
       few-edges = omega arith;
       passed = omega arith;
@@ -83,6 +99,7 @@ module _ {t : Float} {ss : List Float} {s : ℕ} {zs₀ : List Float} {room i n 
         points = w .points ∙ rw (next, j .points);
         edges = w .edges ∙ rw (next, j .points, j .edges);
         rest = j .rest ∙ drop-later zs zs₀ (2 * n) (2 * n′) (omega arith) (w .rest);
+        within = joined-within j (w .within);
         few-points = omega arith;
         few-edges = omega arith;
         passed = omega arith;
@@ -97,15 +114,13 @@ module _ {t : Float} {ss : List Float} {s : ℕ} {zs₀ : List Float} {room i n 
       let done : drop i (segs 2 s ss) ≡ [] = drop-of-length-le (segs 2 s ss) {i = i} (omega (arith, segs-length 2 s ss)) in
       let all-points : rows 2 n zs ≡ weldedPoints t (segs 2 s ss) = sym (w .points ∙ rw done) in
       let all-edges : take m (edgesOf xs ys) ≡ listedEdges t (segs 2 s ss) = sym (w .edges ∙ rw done) in
-      let within : Within (take m (edgesOf xs ys)) n
-      = rw (← all-points, ← all-edges, rows-length 2 n zs) at (listed-within t (segs 2 s ss)) in
       record {
         points = all-points;
         rest = w .rest;
         edges = all-edges;
         few-points = omega (arith, w);
         few-edges = omega (arith, w);
-        within = edges-below m xs ys (w .smaller-room ∙ sym (w .larger-room)) (omega (arith, w)) n within;
+        within = edges-below m xs ys (w .smaller-room ∙ sym (w .larger-room)) (omega (arith, w)) n (w .within);
       }
 
 -- ---- what a caller reads off

@@ -4,7 +4,7 @@ ghost use Prim.Native.Nat.{_+_, _*_, _^_, _≤_, _<_};
 ghost use lib.ListN.{length, take};
 ghost use Rattle.vector.specs.Rows.{row, rows};
 ghost use Rattle.vector.specs.View.{vec2};
-ghost use Rattle.weld.specs.Weld.{between, edge, find, listed, same};
+ghost use Rattle.weld.specs.Weld.{Within, between, edge, find, listed, same};
 ghost use Rattle.weld.specs.Code.{Added, Became, Joined, Lent, Welds, edgesOf};
 use vector::Vec2;
 
@@ -51,7 +51,8 @@ fn weld_segment(
 ) -> Welded
     requires { ⌜ (4 * i + 3 < length (now segments)) × (2 * welded .points + 3 < length (now points))
         × (welded .points + 1 < 2 ^ 32) × (welded .edges < length (now smaller))
-        × (length (now smaller) ≡ length (now larger)) ⌝ }
+        × (length (now smaller) ≡ length (now larger))
+        × Within (take (welded .edges) (edgesOf (now smaller) (now larger))) (welded .points) ⌝ }
     ensures { λ r. ⌜ Joined (row 2 (now (segments .entry)) (2 * i)) (row 2 (now (segments .entry)) (2 * i + 1)) tol2
         (welded .points) (now (points .entry)) (welded .edges) (now (smaller .entry)) (now (larger .entry))
         (r .points) (now (points .exit)) (r .edges) (now (smaller .exit)) (now (larger .exit)) ⌝ }
@@ -60,7 +61,14 @@ fn weld_segment(
     let q = vector::point2(segments, 2 * i + 1);
     let a = push_coord(points, welded.points, p, tol2);
     let b = push_coord(points, a.points, q, tol2);
-    let m = add_edge(smaller, larger, welded.edges, a.place, b.place);
+    let m = add_edge(
+        smaller,
+        larger,
+        welded.edges,
+        a.place,
+        b.place,
+        welded.points,
+    );
     Welded {
         points: b.points,
         edges: m,
@@ -107,9 +115,11 @@ fn find(points: &[f64], n: usize, p: Vec2, tol2: f64) -> usize
     n
 }
 
-// Adds the edge between points a and b to the m edges, unless they are one point or it is listed already.
-fn add_edge(smaller: &mut [u32], larger: &mut [u32], m: usize, a: u32, b: u32) -> usize
-    requires { ⌜ (m < length (now smaller)) × (length (now smaller) ≡ length (now larger)) ⌝ }
+// Adds the edge between points a and b to the m edges, which are between the first n points, unless a and b are one
+// point or it is listed already.
+fn add_edge(smaller: &mut [u32], larger: &mut [u32], m: usize, a: u32, b: u32, n: usize) -> usize
+    requires { ⌜ (m < length (now smaller)) × (length (now smaller) ≡ length (now larger))
+        × Within (take m (edgesOf (now smaller) (now larger))) n ⌝ }
     ensures { λ r. ⌜ Added a b m (now (smaller .entry)) (now (larger .entry)) r (now (smaller .exit))
         (now (larger .exit)) ⌝ }
 {
@@ -117,12 +127,26 @@ fn add_edge(smaller: &mut [u32], larger: &mut [u32], m: usize, a: u32, b: u32) -
         return m;
     }
     let e = Ends::between(a, b);
-    if listed(smaller, larger, m, e) {
+    if known(smaller, larger, m, e, n) {
         return m;
     }
     smaller[m] = e.smaller;
     larger[m] = e.larger;
     m + 1
+}
+
+// Whether e is one of the m edges, which are between the first n points. With a newer point e is none of them, and
+// they are not looked through.
+fn known(smaller: &[u32], larger: &[u32], m: usize, e: Ends, n: usize) -> bool
+    requires { ⌜ (m ≤ length (now smaller)) × (length (now smaller) ≡ length (now larger))
+        × Within (take m (edgesOf (now smaller) (now larger))) n ⌝ }
+    ensures { λ r. ⌜ r ≡ listed (edge (e .smaller) (e .larger))
+        (take m (edgesOf (now (smaller .entry)) (now (larger .entry)))) ⌝ }
+{
+    if e.larger as usize >= n {
+        return false;
+    }
+    listed(smaller, larger, m, e)
 }
 
 // Whether e is one of the m edges.

@@ -9,10 +9,10 @@ use Rattle.stitch.proofs.first_available.Statement.{statement}
 use Rattle.stitch.proofs.first_available.Tie as tie
 
 abbrev Inv-loop : tie.InvT-loop
-Inv-loop smaller larger used current k j₀ j = (k ≤ j) × (j ≤ length smaller) × Left current smaller larger used k j
+Inv-loop smaller larger used current k end j₀ j = (k ≤ j) × (j ≤ length smaller) × Left current smaller larger used k j
 
 abbrev μ-loop : tie.MeasureT-loop
-μ-loop smaller larger used current k j₀ j = length smaller - j
+μ-loop smaller larger used current k end j₀ j = end - j
 
 loop-holds : tie.Need-loop-holds Inv-loop μ-loop
 loop-holds c = (omega arith, omega arith, refl)
@@ -41,8 +41,8 @@ returns c =
     let g = s .args in
     let l = c .before .before .before .before .before .before .loop in
     first-hit (g .current) (g .smaller .now) (g .larger .now) (g .used .now) (g .k) (l .j) (s .pre .0) (s .pre .1) (l .inv .0) (l .inv .2)
-    (c .before .before .before .before .before .loop-test .taken) (c .before .is-available .result) (c .before .is-available .ensures)
-    (c .if1 .taken)
+    (omega (arith, c .before .before .before .before .before .loop-test .taken, s .pre .3)) (c .before .is-available .result)
+    (c .before .is-available .ensures) (c .if1 .taken)
 
 add-j : tie.Need-add-j Inv-loop μ-loop
 add-j c = omega arith
@@ -59,8 +59,8 @@ loop-again c =
       omega arith,
       first-skip (g .current) (g .smaller .now) (g .larger .now) (g .used .now) (g .k) (l .j) (s .pre .0) (s .pre .1) (l .inv .0)
           (l .inv .2)
-          (c .before .before .before .before .before .loop-test .taken) (c .before .is-available .result) (c .before .is-available .ensures)
-          (c .if1 .left),
+          (omega (arith, c .before .before .before .before .before .loop-test .taken, s .pre .3)) (c .before .is-available .result)
+          (c .before .is-available .ensures) (c .if1 .left),
     )
 
 returns-2 : tie.Need-returns-2 Inv-loop μ-loop
@@ -69,7 +69,7 @@ returns-2 c =
     let g = s .args in
     let l = c .before .loop in
     first-none (g .current) (g .smaller .now) (g .larger .now) (g .used .now) (g .k) (l .j) (s .pre .0) (s .pre .1) (l .inv .0) (l .inv .2)
-    (c .loop-test .left) (l .inv .1)
+    (g .end) (s .pre .4) (c .loop-test .left) (l .inv .1)
 
 pub first-available-spec : {M : Type 1} → statement M
 first-available-spec =

@@ -1,10 +1,12 @@
 -- `stitch::select_next_edge` meets its contract. Assumes nothing.
-use mathlib.Core.Path.{_≡_, sym, _∙_}
+use mathlib.Core.Path.{_≡_, ap, sym, _∙_}
+use Prim.Native.Nat.{ℕ}
 use native.Mathlib.Omega.{arith}
 use lib.ListN.{length}
 use Rattle.vector.specs.Rows.{rows}
 use Rattle.weld.specs.Code.{edgesOf}
 use Rattle.weld.proofs.Lists.{edges-length}
+use Rattle.stitch.specs.Walk.{edgeAt, touches}
 use Rattle.stitch.proofs.Scan.{next-none, next-one, next-many}
 use borrow.Author.Needs.{needs}
 use Rattle.stitch.proofs.select_next_edge.Statement.{statement}
@@ -35,6 +37,8 @@ first-available-requires-2 c κs = (
       .marks,
   omega
       (arith, c .before .first-available .ensures .inside, count (c .before .before .before .before .before .before), c .if1 .left),
+  c .before .before .before .before .before .before .pre .3,
+  c .before .before .before .before .before .before .pre .4,
 )
 
 returns-2 : tie.Need-returns-2
@@ -74,6 +78,11 @@ straightest-requires c κs = (
         (c .before .before .before .before .before .before .before .before .before),
     c .before .if2 .left,
   ),
+  c .before .before .before .before .before .before .before .before .before .pre .3,
+  λ k h g.
+      let s = c .before .before .before .before .before .before .before .before .before in
+      ap (λ (v : ℕ). touches v (edgeAt (edgesOf (s .args .smaller .now) (s .args .larger .now)) k)) (c .arrive .ensures .node) ∙ s .pre .4 k
+      h g,
 )
 
 returns-3 : tie.Need-returns-3

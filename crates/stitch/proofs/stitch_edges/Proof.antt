@@ -1,5 +1,8 @@
 -- `stitch::stitch_edges` meets its contract. Assumes nothing.
+use mathlib.Core.Path.{refl}
 use Prim.Native.Nat.{_-_}
+use borrow.Author.Needs.{needs}
+use Rattle.weld.proofs.Lists.{edges-length}
 use native.Mathlib.Omega.{arith}
 use lib.ListN.{length}
 use Rattle.stitch.proofs.Stitching.{Looping, looping-start, looping-ready, looping-spare, looping-step, looping-end}
@@ -7,57 +10,89 @@ use Rattle.stitch.proofs.stitch_edges.Statement.{statement}
 use Rattle.stitch.proofs.stitch_edges.Tie as tie
 
 abbrev Inv-loop : tie.InvT-loop
-Inv-loop points n smaller larger used₀ walked₀ tol2 nodes₀ ends₀ t₀ k₀ used walked nodes ends t k =
+Inv-loop points n smaller larger used₀ walked₀ tol2 nodes₀ ends₀ last t₀ k₀ used walked nodes ends t k =
     Looping n points smaller larger tol2 used₀ walked₀ nodes₀ ends₀ used walked nodes ends t k
 
 abbrev μ-loop : tie.MeasureT-loop
-μ-loop points n smaller larger used₀ walked₀ tol2 nodes₀ ends₀ t₀ k₀ used walked nodes ends t k = length smaller - k
+μ-loop points n smaller larger used₀ walked₀ tol2 nodes₀ ends₀ last t₀ k₀ used walked nodes ends t k = length smaller - k
+
+slice-aggregate-last-edges : tie.Need-slice-aggregate-last-edges Inv-loop μ-loop
+slice-aggregate-last-edges c = search needs
+
+last-edges-requires : tie.Need-last-edges-requires Inv-loop μ-loop
+last-edges-requires c κs =
+    let s = c .before .before .before .before .before .before .before .before in
+    let m = edges-length (s .args .smaller .now) (s .args .larger .now) (s .pre .0 .ends .same) in (
+      s .pre .0 .ends .same,
+      omega (arith, s .pre .1 .few),
+      λ k h. let w = s .pre .0 .ends .within k h in omega (arith, s .pre .3),
+      λ k h. let w = s .pre .0 .ends .within k (omega (arith, s .pre .0 .ends .same)) in omega (arith, s .pre .3),
+      refl,
+    )
 
 loop-holds : tie.Need-loop-holds Inv-loop μ-loop
 loop-holds c =
-    let s = c .before .before .before .before .before .before .before in
+    let s = c .before .before .before .before .before .before .before .before .before .before in
     let g = s .args in
     looping-start (g .n) (g .points .now) (g .smaller .now) (g .larger .now) (g .tol2) (g .used .now) (g .walked .now) (g .nodes .now)
     (g .ends .now)
     (s .pre .0 .ends .same) (s .pre .2)
 
+slice-aggregate-stitch-from : tie.Need-slice-aggregate-stitch-from Inv-loop μ-loop
+slice-aggregate-stitch-from c = search needs
+
 stitch-from-requires : tie.Need-stitch-from-requires Inv-loop μ-loop
 stitch-from-requires c κs =
-    let s = c .before .before .before .before .before .before .before .before .before .before .before .before .before in
+    let s =
+    c .before .before .before .before .before .before .before .before .before .before .before .before .before .before .before .before
+    .before in
     let g = s .args in
-    let l = c .before .before .before .before .before .loop in (
+    let l = c .before .before .before .before .before .before .loop in (
       looping-ready (g .n) (g .points .now) (g .smaller .now) (g .larger .now) (g .tol2) (g .used .now) (g .walked .now) (g .nodes .now)
           (g .ends .now)
           (l .used) (l .walked) (l .nodes) (l .ends) (l .t) (l .k) (l .inv) (s .pre .0) (s .pre .1),
       looping-spare (g .n) (g .points .now) (g .smaller .now) (g .larger .now) (g .tol2) (g .used .now) (g .walked .now) (g .nodes .now)
           (g .ends .now)
           (l .used) (l .walked) (l .nodes) (l .ends) (l .t) (l .k) (l .inv) (s .pre .0) (s .pre .1),
-      c .before .before .before .before .loop-test .taken,
+      c .before .before .before .before .before .loop-test .taken,
       l .inv .so-far .counting,
+      omega (arith, s .pre .3, c .before .before .before .before .before .before .before .before .last-edges .kept .1 .1 .0),
+      c .before .before .before .before .before .before .before .before .last-edges .ensures,
     )
 
 add-k : tie.Need-add-k Inv-loop μ-loop
 add-k c =
-    omega
-    (arith, c .before .before .before .before .before .before .before .before .before .before .before .before .before .loop-test .taken)
+    let s =
+    c .before .before .before .before .before .before .before .before .before .before .before .before .before .before .before .before
+    .before .before .before .before .before .before .before .before .before .before in
+    omega (
+      arith,
+      c .before .before .before .before .before .before .before .before .before .before .before .before .before .before .loop-test .taken,
+      s .pre .1 .few,
+      edges-length (s .args .smaller .now) (s .args .larger .now) (s .pre .0 .ends .same),
+    )
 
 loop-less : tie.Need-loop-less Inv-loop μ-loop
 loop-less c =
-    omega
-    (arith, c .before .before .before .before .before .before .before .before .before .before .before .before .before .loop-test .taken)
+    omega (
+      arith,
+      c .before .before .before .before .before .before .before .before .before .before .before .before .before .before .loop-test
+          .taken,
+    )
 
 loop-again : tie.Need-loop-again Inv-loop μ-loop
 loop-again c =
     let s =
     c .before .before .before .before .before .before .before .before .before .before .before .before .before .before .before .before
-    .before .before .before .before .before .before in
+    .before .before .before .before .before .before .before .before .before .before in
     let g = s .args in
-    let l = c .before .before .before .before .before .before .before .before .before .before .before .before .before .before .loop in
+    let l =
+    c .before .before .before .before .before .before .before .before .before .before .before .before .before .before .before .loop in
     let f = c .before .before .before .before .before .before .before .before .stitch-from in
     looping-step (g .n) (g .points .now) (g .smaller .now) (g .larger .now) (g .tol2) (g .used .now) (g .walked .now) (g .nodes .now)
     (g .ends .now)
     (l .used) (l .walked) (l .nodes) (l .ends) (l .t) (l .k) (l .inv) (s .pre .0) (s .pre .1)
-    (c .before .before .before .before .before .before .before .before .before .before .before .before .before .loop-test .taken)
+    (c .before .before .before .before .before .before .before .before .before .before .before .before .before .before .loop-test .taken)
     (f .last .1 .1 .1 .1 .0) (f .last .1 .1 .1 .1 .1 .0) (f .last .1 .1 .1 .1 .1 .1 .1 .0) (f .last .1 .1 .1 .1 .1 .1 .1 .1 .0) (f .result)
     (f .kept .1 .1 .1 .1 .0) (f .kept .1 .1 .1 .1 .1 .0) (f .kept .1 .1 .1 .1 .1 .1 .1 .0) (f .kept .1 .1 .1 .1 .1 .1 .1 .1 .0) (f .ensures)
 
@@ -75,7 +110,7 @@ same-length-4 c = c .before .loop .inv .ends-length′
 
 returns : tie.Need-returns Inv-loop μ-loop
 returns c =
-    let s = c .before .before .before .before .before .before .before .before .before in
+    let s = c .before .before .before .before .before .before .before .before .before .before .before .before in
     let g = s .args in
     let l = c .before .loop in
     looping-end (g .n) (g .points .now) (g .smaller .now) (g .larger .now) (g .tol2) (g .used .now) (g .walked .now) (g .nodes .now)
@@ -88,7 +123,10 @@ stitch-edges-spec =
     (tie.spec
     Inv-loop
     μ-loop
+    slice-aggregate-last-edges
+    last-edges-requires
     loop-holds
+    slice-aggregate-stitch-from
     stitch-from-requires
     add-k
     loop-less

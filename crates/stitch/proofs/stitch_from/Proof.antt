@@ -25,7 +25,7 @@ walked-room s = omega (arith, edges-length (s .args .smaller .now) (s .args .lar
 
 -- after the walk: the entry, the nodes, and that edge k was free
 abbrev entry : tie.After-walk → tie.Start
-entry c = c .before .before .before .before .before .before .before .before .before .before .before .before
+entry c = c .before .before .before .before .before .before .before .before .before .before .before .before .before
 
 abbrev buffer : tie.After-walk → List ℕ
 buffer c = c .walk .last .1 .1 .1 .1 .1 .0
@@ -35,20 +35,21 @@ free c = sym (mark (entry c)) ∙ c .before .before .before .if1 .left
 
 returns : tie.Need-returns
 returns c =
-    let g = c .before .before .before .before .before .before .before .before .before .args in
+    let g = c .before .before .before .before .before .before .before .before .before .before .args in
     turn-used (rows 2 (g .n) (g .points .now)) (edgesOf (g .smaller .now) (g .larger .now)) (g .tol2) (g .k) (g .used .now) (g .t)
     (g .nodes .now)
-    (g .ends .now) (sym (mark (c .before .before .before .before .before .before .before .before .before)) ∙ c .if1 .taken)
+    (g .ends .now) (sym (mark (c .before .before .before .before .before .before .before .before .before .before)) ∙ c .if1 .taken)
 
 walk-requires : tie.Need-walk-requires
 walk-requires c κs = (
-  c .before .before .before .before .before .before .before .before .before .before .before .pre .0,
-  c .before .before .before .before
-      .before .before .before .before .before .before .before .pre .2,
+  c .before .before .before .before .before .before .before .before .before .before .before .before .pre .0,
+  c .before .before .before .before .before .before .before .before .before .before .before .before .pre .2,
   walked-room
-      (c .before .before .before .before .before .before .before .before .before .before .before),
+      (c .before .before .before .before .before .before .before .before .before .before .before .before),
   sym
-      (mark (c .before .before .before .before .before .before .before .before .before .before .before)) ∙ c .before .before .if1 .left,
+      (mark (c .before .before .before .before .before .before .before .before .before .before .before .before)) ∙ c .before .before .if1 .left,
+  c .before .before .before .before .before .before .before .before .before .before .before .before .pre .4,
+  c .before .before .before .before .before .before .before .before .before .before .before .before .pre .5,
 )
 
 slice-reshare-prefix-finish : tie.Need-slice-reshare-prefix-finish

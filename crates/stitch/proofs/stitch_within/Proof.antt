@@ -83,6 +83,7 @@ stitch-edges-requires c κs =
           (f .last .1 .1 .1 .0) (f .last .1 .1 .1 .1 .0)
           (g .nodes .now) (g .ends .now) (f .ensures) (s .pre .0) (f .kept .1 .1 .0) (f .kept .1 .1 .1 .0 ∙ s .pre .1)
           (f .kept .1 .1 .1 .1 .0 ∙ s .pre .2) (g .used .now) (s .pre .3),
+      omega (arith, f .ensures .few-points, s .pre .0 .few),
     )
 
 same-length : tie.Need-same-length

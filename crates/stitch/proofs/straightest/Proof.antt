@@ -14,7 +14,7 @@ use Rattle.stitch.proofs.straightest.Statement.{statement}
 use Rattle.stitch.proofs.straightest.Tie as tie
 
 abbrev Inv-loop : tie.InvT-loop
-Inv-loop points n smaller larger used arrival first second best₀ k₀ best k =
+Inv-loop points n smaller larger used arrival first second end best₀ k₀ best k =
     let es = edgesOf smaller larger in
     let f = cosineFor arrival (rows 2 n points) es in
     (k ≤ length smaller)
@@ -22,7 +22,7 @@ Inv-loop points n smaller larger used arrival first second best₀ k₀ best k =
     (ahead (arrival .node) es used k))
 
 abbrev μ-loop : tie.MeasureT-loop
-μ-loop points n smaller larger used arrival first second best₀ k₀ best k = length smaller - k
+μ-loop points n smaller larger used arrival first second end best₀ k₀ best k = length smaller - k
 
 cosine-along-requires : tie.Need-cosine-along-requires Inv-loop μ-loop
 cosine-along-requires c κs = (c .before .before .before .before .pre .0 .ends, c .before .before .before .before .pre .1)
@@ -45,6 +45,8 @@ first-available-requires c κs = (
   c .before .before .before .before
       .before .before .before .before .before .pre .0 .marks,
   omega arith,
+  c .before .before .before .before .before .before .before .before .before .pre .3,
+  c .before .before .before .before .before .before .before .before .before .pre .4,
 )
 
 loop-less : tie.Need-loop-less Inv-loop μ-loop

@@ -1,12 +1,13 @@
 -- `stitch::walk` meets its contract. Assumes nothing.
 use mathlib.Core.Path.{_≡_, sym, _∙_}
 use mathlib.Core.Bool.{true}
-use Prim.Native.Nat.{ℕ, _<_}
+use Prim.Native.Nat.{ℕ, _≤_, _<_}
 use native.Mathlib.Omega.{arith}
 use borrow.Author.Needs.{needs}
 use lib.ListN.{length, getD, set, length-set}
 use Rattle.vector.specs.Rows.{rows}
 use Rattle.weld.specs.Code.{edgesOf}
+use Rattle.weld.proofs.Lists.{edges-length}
 use Rattle.stitch.specs.declared.Next.{Next}
 use Rattle.stitch.specs.declared.Next.the-variants as next
 use Rattle.stitch.specs.Walk.{nextEdge, Walk}
@@ -16,13 +17,14 @@ use Rattle.stitch.proofs.walk.Statement.{statement}
 use Rattle.stitch.proofs.walk.Tie as tie
 
 abbrev Inv-loop : tie.InvT-loop
-Inv-loop points n smaller larger used₀ nodes₀ start-edge start-node count₀ previous₀ current₀ used nodes count previous current =
+Inv-loop points n smaller larger used₀ nodes₀ last start-edge start-node count₀ previous₀ current₀ used nodes count previous current =
     Going n points smaller larger start-node
     (whole (rows 2 n points) (edgesOf smaller larger) start-node start-edge current₀ used₀) (length nodes₀) used nodes count previous
     current
 
 abbrev μ-loop : tie.MeasureT-loop
-μ-loop points n smaller larger used₀ nodes₀ start-edge start-node count₀ previous₀ current₀ used nodes count previous current = unused used
+μ-loop points n smaller larger used₀ nodes₀ last start-edge start-node count₀ previous₀ current₀ used nodes count previous current =
+    unused used
 
 -- the walk, and the length of its buffer after the first store
 abbrev the-walk : tie.Start Inv-loop μ-loop → Walk
@@ -41,7 +43,7 @@ fits s = rw (length-set (s .args .nodes .now) 0 (getD (s .args .smaller .now) (s
 
 -- where the loop's test is reached: the entry, and the junction's choice there
 abbrev entry : tie.At-loop Inv-loop μ-loop → tie.Start Inv-loop μ-loop
-entry L = L .before .before .before .before .before .before .before .before
+entry L = L .before .before .before .before .before .before .before .before .before
 
 abbrev choice : tie.At-loop Inv-loop μ-loop → Next
 choice L =
@@ -51,7 +53,7 @@ choice L =
 
 -- past the choice of an edge
 abbrev turn : tie.After-known-told Inv-loop μ-loop → tie.At-loop Inv-loop μ-loop
-turn c = c .before .before .before .before .before .before
+turn c = c .before .before .before .before .before .before .before
 
 abbrev taken : tie.After-known-told Inv-loop μ-loop → ℕ
 taken c = c .before .next-edge .given .0 .0
@@ -74,7 +76,7 @@ shared-slice-read-start-node : tie.Need-shared-slice-read-start-node Inv-loop μ
 shared-slice-read-start-node c = omega arith
 
 slice-write-used : tie.Need-slice-write-used Inv-loop μ-loop
-slice-write-used c = omega (arith, c .before .before .before .before .before .before .pre .0 .marks)
+slice-write-used c = omega (arith, c .before .before .before .before .before .before .before .pre .0 .marks)
 
 slice-write-nodes : tie.Need-slice-write-nodes Inv-loop μ-loop
 slice-write-nodes c = omega arith
@@ -83,11 +85,11 @@ mul-current : tie.Need-mul-current Inv-loop μ-loop
 mul-current c = omega arith
 
 shared-slice-read-current : tie.Need-shared-slice-read-current Inv-loop μ-loop
-shared-slice-read-current c = omega (arith, c .before .before .before .before .before .before .before .pre .0 .ends .same)
+shared-slice-read-current c = omega (arith, c .before .before .before .before .before .before .before .before .pre .0 .ends .same)
 
 loop-holds : tie.Need-loop-holds Inv-loop μ-loop
 loop-holds c =
-    let s = c .before .before .before .before .before .before .before in
+    let s = c .before .before .before .before .before .before .before .before in
     let g = s .args in
     going-start (g .n) (g .points .now) (g .smaller .now) (g .larger .now) (g .used .now) (g .nodes .now) (g .start-edge) (s .pre .0)
     (s .pre .1)
@@ -95,29 +97,50 @@ loop-holds c =
 
 mul-nodes : tie.Need-mul-nodes Inv-loop μ-loop
 mul-nodes c =
-    let s = c .before .before .before .before .before .before .before .before .before in
+    let s = c .before .before .before .before .before .before .before .before .before .before in
     let g = s .args in
     let l = c .before .loop in
     omega (arith, l .inv .left)
 
 slice-write-nodes-2 : tie.Need-slice-write-nodes-2 Inv-loop μ-loop
 slice-write-nodes-2 c =
-    let s = c .before .before .before .before .before .before .before .before .before in
+    let s = c .before .before .before .before .before .before .before .before .before .before in
     let g = s .args in
     let l = c .before .loop in
     in-buffer (g .n) (g .points .now) (g .smaller .now) (g .larger .now) _ (the-walk s) (room s) (l .used) (l .nodes) (l .count)
     (l .previous)
     (l .current) (l .inv) (s .pre .0 .ends) (fits s)
 
+end-at-requires : tie.Need-end-at-requires Inv-loop μ-loop
+end-at-requires c κs =
+    let s = c .before .before .before .before .before .before .before .before .before .before in
+    omega (arith, c .before .loop .inv .c-in, s .pre .4)
+
+-- the last edge at a point is one of the edges
+end-in : (c : tie.After-select-next-edge-arg Inv-loop μ-loop)
+    → c .before .end-at .result ≤ length (entry (c .before .before .before) .args .smaller .now)
+end-in c =
+    let L = c .before .before .before in
+    let s = entry L in
+    omega (
+      arith,
+      s .pre .1,
+      s .pre .5 .inside (L .loop .current),
+      c .before .end-at .ensures,
+      edges-length (s .args .smaller .now) (s .args .larger .now) (s .pre .0 .ends .same),
+    )
+
 select-next-edge-requires : tie.Need-select-next-edge-requires Inv-loop μ-loop
 select-next-edge-requires c κs =
-    let s = c .before .before .before .before .before .before .before .before .before .before in
+    let s = c .before .before .before .before .before .before .before .before .before .before .before .before in
     let g = s .args in
-    let l = c .before .before .loop in (
+    let l = c .before .before .before .loop in (
       ready (g .n) (g .points .now) (g .smaller .now) (g .larger .now) _ (the-walk s) (room s) (l .used) (l .nodes) (l .count) (l .previous)
           (l .current) (l .inv) (s .pre .0 .ends) (fits s),
       l .inv .p-in,
       l .inv .c-in,
+      end-in c,
+      λ k h h′. s .pre .5 .none-after (l .current) k (omega (arith, h, c .before .end-at .ensures)) h′,
     )
 
 enum-known-next-edge : tie.Need-enum-known-next-edge Inv-loop μ-loop
@@ -126,34 +149,35 @@ enum-known-next-edge c = search needs
 enum-told : tie.Need-enum-told Inv-loop μ-loop
 enum-told c = search needs
 
-add-t25 : tie.Need-add-t25 Inv-loop μ-loop
-add-t25 c = omega (arith, c .before .before .before .before .before .loop .inv .left)
+add-t27 : tie.Need-add-t27 Inv-loop μ-loop
+add-t27 c = omega (arith, c .before .before .before .before .before .before .loop .inv .left)
 
 same-length : tie.Need-same-length Inv-loop μ-loop
 same-length c =
     omega (
       arith,
-      c .before .before .before .before .before .loop .inv .marks,
-      c .before .before .before .before .before .before .before
-          .before .before .before .before .before .before .pre .0 .marks,
+      c .before .before .before .before .before .before .loop .inv .marks,
+      c .before .before .before .before .before .before .before .before .before .before .before .before .before .before .before .pre .0
+          .marks,
     )
 
 same-length-2 : tie.Need-same-length-2 Inv-loop μ-loop
-same-length-2 c = simp length-set (omega (arith, simp length-set at (c .before .before .before .before .before .loop .inv .nodes)))
+same-length-2 c = simp length-set (omega (arith, simp length-set at (c .before .before .before .before .before .before .loop .inv .nodes)))
 
 returns : tie.Need-returns Inv-loop μ-loop
 returns c =
-    let s = c .before .before .before .before .before .before .before .before .before .before .before .before .before in
+    let s = c .before .before .before .before .before .before .before .before .before .before .before .before .before .before .before in
     let g = s .args in
-    let l = c .before .before .before .before .before .loop in
+    let l = c .before .before .before .before .before .before .loop in
     rw (walk-is (rows 2 (g .n) (g .points .now)) (g .smaller .now) (g .larger .now) (g .start-edge) (g .used .now) (s .pre .0 .ends .same))
     (going-open (g .n) (g .points .now) (g .smaller .now) (g .larger .now) _ (the-walk s) (room s) (l .used) (l .nodes) (l .count)
     (l .previous)
     (l .current) (l .inv) (s .pre .0 .ends) (fits s)
-    (c .before .before .before .before .loop-test .taken) (sym (c .before .before .select-next-edge .ensures) ∙ c .enum-told .given .1))
+    (c .before .before .before .before .before .loop-test .taken)
+    (sym (c .before .before .select-next-edge .ensures) ∙ c .enum-told .given .1))
 
 slice-write-used-2 : tie.Need-slice-write-used-2 Inv-loop μ-loop
-slice-write-used-2 c = omega (arith, inside c, c .before .before .before .before .before .before .loop .inv .marks)
+slice-write-used-2 c = omega (arith, inside c, c .before .before .before .before .before .before .before .loop .inv .marks)
 
 mul-other-end : tie.Need-mul-other-end Inv-loop μ-loop
 mul-other-end c = omega (arith, inside c)
@@ -166,8 +190,8 @@ mul-other-end-2 c =
     omega (
       arith,
       inside (c .before),
-      c .before .before .before .before .before .before .before .before .before .before .before .before
-          .before .before .before .pre .0 .ends .same,
+      c .before .before .before .before .before .before .before .before .before .before .before .before .before .before .before .before
+          .before .pre .0 .ends .same,
     )
 
 shared-slice-read-other-end-2 : tie.Need-shared-slice-read-other-end-2 Inv-loop μ-loop
@@ -175,23 +199,23 @@ shared-slice-read-other-end-2 c =
     omega (
       arith,
       inside (c .before .before),
-      c .before .before .before .before .before .before .before .before .before .before .before
-          .before .before .before .before .before .pre .0 .ends .same,
+      c .before .before .before .before .before .before .before .before .before .before .before .before .before .before .before .before
+          .before .before .pre .0 .ends .same,
     )
 
 other-end-requires : tie.Need-other-end-requires Inv-loop μ-loop
 other-end-requires c κs = search needs
 
 add-count : tie.Need-add-count Inv-loop μ-loop
-add-count c = omega (arith, c .before .before .before .before .before .before .before .before .before .loop .inv .left)
+add-count c = omega (arith, c .before .before .before .before .before .before .before .before .before .before .loop .inv .left)
 
 loop-less : tie.Need-loop-less Inv-loop μ-loop
 loop-less c =
     let s =
     c .before .before .before .before .before .before .before .before .before .before .before .before .before .before .before .before
-    .before in
+    .before .before .before in
     let g = s .args in
-    let l = c .before .before .before .before .before .before .before .before .before .loop in
+    let l = c .before .before .before .before .before .before .before .before .before .before .loop in
     fewer (g .n) (g .points .now) (g .smaller .now) (g .larger .now) _ (the-walk s) (room s) (l .used) (l .nodes) (l .count) (l .previous)
     (l .current) (l .inv) (s .pre .0 .ends) (fits s)
     (taken (c .before .before .before)) (chosen (c .before .before .before))
@@ -200,25 +224,26 @@ loop-again : tie.Need-loop-again Inv-loop μ-loop
 loop-again c =
     let s =
     c .before .before .before .before .before .before .before .before .before .before .before .before .before .before .before .before
-    .before in
+    .before .before .before in
     let g = s .args in
-    let l = c .before .before .before .before .before .before .before .before .before .loop in
+    let l = c .before .before .before .before .before .before .before .before .before .before .loop in
     going-step (g .n) (g .points .now) (g .smaller .now) (g .larger .now) _ (the-walk s) (room s) (l .used) (l .nodes) (l .count)
     (l .previous)
     (l .current) (l .inv) (s .pre .0 .ends) (fits s)
     (taken (c .before .before .before)) (chosen (c .before .before .before)) (c .other-end .result)
-    (c .before .before .before .before .before .before .before .before .loop-test .taken) (c .other-end .ensures)
+    (c .before .before .before .before .before .before .before .before .before .loop-test .taken) (c .other-end .ensures)
 
 same-length-3 : tie.Need-same-length-3 Inv-loop μ-loop
 same-length-3 c =
-    omega (arith, c .before .loop .inv .marks, c .before .before .before .before .before .before .before .before .before .pre .0 .marks)
+    omega
+    (arith, c .before .loop .inv .marks, c .before .before .before .before .before .before .before .before .before .before .pre .0 .marks)
 
 same-length-4 : tie.Need-same-length-4 Inv-loop μ-loop
 same-length-4 c = omega (arith, simp length-set at (c .before .loop .inv .nodes))
 
 returns-2 : tie.Need-returns-2 Inv-loop μ-loop
 returns-2 c =
-    let s = c .before .before .before .before .before .before .before .before .before in
+    let s = c .before .before .before .before .before .before .before .before .before .before in
     let g = s .args in
     let l = c .before .loop in
     rw (walk-is (rows 2 (g .n) (g .points .now)) (g .smaller .now) (g .larger .now) (g .start-edge) (g .used .now) (s .pre .0 .ends .same))
@@ -242,10 +267,11 @@ walk-spec =
     loop-holds
     mul-nodes
     slice-write-nodes-2
+    end-at-requires
     select-next-edge-requires
     enum-known-next-edge
     enum-told
-    add-t25
+    add-t27
     same-length
     same-length-2
     returns

@@ -11,8 +11,8 @@ returns c = added-none (c .if1 .taken)
 between-requires : tie.Need-between-requires
 between-requires c κs = search needs
 
-listed-requires : tie.Need-listed-requires
-listed-requires c κs = search needs
+known-requires : tie.Need-known-requires
+known-requires c κs = search needs
 
 same-length : tie.Need-same-length
 same-length c = search needs
@@ -23,7 +23,7 @@ same-length-2 c = search needs
 returns-2 : tie.Need-returns-2
 returns-2 c =
     let e = c .before .before .before .before in
-    added-old (e .between .ensures) (e .before .if1 .left) (sym (c .before .listed .ensures) ∙ c .if2 .taken)
+    added-old (e .between .ensures) (e .before .if1 .left) (sym (c .before .known .ensures) ∙ c .if2 .taken)
 
 mul-smaller : tie.Need-mul-smaller
 mul-smaller c = search needs
@@ -50,7 +50,7 @@ returns-3 : tie.Need-returns-3
 returns-3 c =
     let e = c .before .before .before .before in
     let s = e .before .before .before .before in
-    added-new (e .between .ensures) (e .before .if1 .left) (sym (c .before .listed .ensures) ∙ c .if2 .left) (s .pre .1) (s .pre .0)
+    added-new (e .between .ensures) (e .before .if1 .left) (sym (c .before .known .ensures) ∙ c .if2 .left) (s .pre .1) (s .pre .0)
 
 pub add-edge-spec : {M : Type 1} → statement M
 add-edge-spec =
@@ -58,7 +58,7 @@ add-edge-spec =
     (tie.spec
     returns
     between-requires
-    listed-requires
+    known-requires
     same-length
     same-length-2
     returns-2

@@ -19,7 +19,7 @@ loop-holds : tie.Need-loop-holds Inv-loop μ-loop
 loop-holds c = welding-start (c .before .before .before .before .pre .alike)
 
 weld-segment-requires : tie.Need-weld-segment-requires Inv-loop μ-loop
-weld-segment-requires c κs = omega arith
+weld-segment-requires c κs = search needs
 
 add-i : tie.Need-add-i Inv-loop μ-loop
 add-i c = search needs
