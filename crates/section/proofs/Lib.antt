@@ -1,1 +1,6 @@
-pub mod Section
+pub mod Outcomes
+pub mod Stitching
+pub mod Seam
+pub mod Segments
+pub mod Reading
+pub mod Claims
