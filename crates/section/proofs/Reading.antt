@@ -43,7 +43,7 @@ module _ {o : Read} {r : Reading} {out out′ : List Float} {ends ends′ : List
   pub was-cell : {m f : ℕ} → r ≡ Cell m f → IsCell o m f
   was-cell {m} {f} e = cell-only o m f (ap meaning (sym e) ∙ h .gave .answer)
 
-most-256 : (t : ℕ) → spaceMost t ≤ 256
+pub most-256 : (t : ℕ) → spaceMost t ≤ 256
 most-256 t = either (eqb t 18)
   where
     either : (b : Bool) → cond b 256 24 ≤ 256

@@ -56,7 +56,7 @@ cut-ends n (l ∷ ls) tail =
           (n + length l) ls tail,
     )
 
-read-back : (a : Answer) (r : Stitched) (numbers numbers′ : List Float) (nodes nodes′ ends ends′ : List ℕ)
+pub read-back : (a : Answer) (r : Stitched) (numbers numbers′ : List Float) (nodes nodes′ ends ends′ : List ℕ)
     → Gave a r numbers numbers′ nodes nodes′ ends ends′ → answerIn r numbers′ nodes′ ends′ ≡ a
 read-back a r numbers numbers′ nodes nodes′ ends ends′ g =
     let m : length (endsFrom 0 (a .loops)) ≡ r .loops = ends-length 0 (a .loops) ∙ sym (g .loop-count) in
