@@ -8,7 +8,7 @@ ghost use Rattle.vector.specs.View.{frameOf, vec3};
 ghost use Rattle.clip.specs.Clip.{alike, clipEdge, clipSides, duplicate, edges, keptSide, liesOn, planeIntersection};
 ghost use Rattle.clip.specs.Clip.{planeSectionSegments, pushAll, pushSegment, pushSegments, pushUnique, sectionOn, withoutClosing};
 ghost use Rattle.clip.specs.Cell.{atMost, cellSegments, cutBy, faceSegments, facesOf, projectSeg};
-ghost use Rattle.clip.specs.Code.{Points, Rising, Segments};
+ghost use Rattle.clip.specs.Code.{Fit, Points, Segments};
 ghost use Rattle.clip.specs.View.{cut3, points3};
 use crate::Side;
 use crate::both_at_most;
@@ -37,8 +37,8 @@ pub enum Clip {
 }
 
 // A cell of m corners in all, which stand in coords face by face; ends are running totals. Its segments, in the
-// plane's own coordinates, written to out. Gives how many there are. What the scratch `points` and `space` hold
-// afterwards is not said.
+// plane's own coordinates, written to out. Gives how many there are. The scratch `points` and `space` has room for
+// one face at a time, and what it holds afterwards is not said.
 pub fn cell_segments(
     coords: &[f64],
     ends: &[usize],
@@ -49,8 +49,8 @@ pub fn cell_segments(
     space: &mut [f64],
     out: &mut [f64],
 ) -> usize
-    requires { ⌜ Rising 0 (now ends) m × (3 * m ≤ length (now coords)) × (3 * atMost m ≤ length (now points))
-        × (6 * atMost m ≤ length (now space)) × (4 * atMost m ≤ length (now out)) ⌝ }
+    requires { ⌜ Fit 0 (now ends) m (length (now points)) (length (now space)) × (3 * m ≤ length (now coords))
+        × (4 * atMost m ≤ length (now out)) ⌝ }
     ensures { λ r. ⌜ Segments 2 (now (out .entry))
         (cellSegments (cutBy (frameOf plane) tol) (frameOf plane) (facesOf 3 (now (ends .entry)) (now (coords .entry))))
         r (now (out .exit)) ⌝ }
