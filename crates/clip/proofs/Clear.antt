@@ -2,12 +2,12 @@
 -- Assumes nothing.
 use mathlib.Core.Path.{_≡_, refl, ap, sym, _∙_}
 use mathlib.Core.List.{List, [], _∷_, _++_}
-use mathlib.Core.Bool.{Bool, true, false, not, cond, _&&_, _||_}
+use mathlib.Core.Bool.{Bool, true, false, not, cond, _&&_, _||_, false≢true}
 use Prim.Native.Nat.{ℕ, zero, suc, _+_, _-_, _≤_, _<_}
 use native.Mathlib.Numerals.{add-one}
 use native.Mathlib.Omega.{arith}
 use lib.Dec.{ltb}
-use lib.Ieee.{Float, lt, le, neg}
+use lib.Ieee.{Float, binary64, mul, lt, le, neg}
 use lib.ListN.{length, getD, take, drop, drop-of-length-le}
 use lib.Seq.{drop-cons}
 use Rattle.vector.specs.Number.{f0, f1, minusOne, abs}
@@ -168,7 +168,19 @@ clearing-step {w} {n} {xs} {c} {s} {i} {p} v h ep g =
     record { all = λ r. v .all (rw here (g, r)); within = omega arith }
 
 pub clearing-end : {w n : ℕ} {xs : List Float} {c : Cut} {s : Float} {i : ℕ} → Clearing w n xs c s i → n ≤ i
-    → sectionOn c s (rows w n xs) ≡ []
+    → Each (Clear c s) (rows w n xs)
 clearing-end {w} {n} {xs} {c} {s} {i} v h =
     let none : drop i (rows w n xs) ≡ [] = drop-of-length-le (rows w n xs) {i = i} (omega (arith, rows-length w n xs)) in
-    clear-side c s (rows w n xs) (v .all (rw none tt))
+    v .all (rw none tt)
+
+-- what the test of a corner tells
+pub clear-corner : {c : Cut} {s d : Float} {p : Vector} {b : Bool} → d ≡ away c p
+    → b ≡ (not (le (abs d) (c .tol)) && le (neg (c .tol)) (mul binary64 s d)) → b ≡ true → Clear c s p
+clear-corner {c} {s} {d} {p} {b} ed eb h =
+    let g = sym eb ∙ h in
+    let f = byTest (le (abs d) (c .tol)) (le (neg (c .tol)) (mul binary64 s d)) g in
+    record { off = rw (← ed) (f .0); within = rw (← ed) (f .1) }
+  where
+    byTest : (x y : Bool) → (not x && y) ≡ true → (x ≡ false) × (y ≡ true)
+    byTest true y h = absurd (false≢true h)
+    byTest false y h = (refl, h)
