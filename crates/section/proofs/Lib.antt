@@ -1,1 +1,1 @@
-pub mod Section
+pub mod Claims

@@ -1,1 +1,4 @@
-pub mod Section
+pub mod Outcome
+pub mod Entries
+pub mod Code
+pub mod Claims

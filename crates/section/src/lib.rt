@@ -1,1 +1,328 @@
-// What holds of reading a cell and clipping its faces together: statements in specs/, theorems in proofs/.
+// A cell cut by a plane, stitching alone, and the tolerance: the entries with a section or a number as their answer.
+ghost use mathlib.Core.Path.{_≡_};
+ghost use Prim.Native.Nat.{_*_, _/_, _<_, _≤_};
+ghost use lib.ListN.{length, take};
+ghost use Rattle.vector.specs.Vector.{planeOf};
+ghost use Rattle.vector.specs.View.{frameOf};
+ghost use Rattle.clip.specs.Cell.{facesOf};
+ghost use Rattle.stitch.specs.Code.{Gave as Answered};
+ghost use Rattle.section.specs.Outcome.{Gave, andThen, room};
+ghost use Rattle.section.specs.Entries.{frameIn, placedBy, planeCut, sectionOf};
+ghost use Rattle.section.specs.Code.{Faces, Roomy, Scratch, counted, meaning, placing, sectionIn};
+use cell::Reading;
+use cell::SpaceType;
+use stitch::Stitched;
+use vector::Placed;
+use vector::Plane;
+
+// The number of a refusal, or how much was written and the four counts of edges.
+pub enum Section {
+    Refused(u8),
+    Cut(Stitched),
+}
+
+// The number of a refusal, or the tolerance.
+pub enum Tolerance {
+    Refused(u8),
+    Of(f64),
+}
+
+// Cuts a single cell in space with a plane: the section's points in the plane's own coordinates, the nodes of its
+// loops, and where each loop ends among them.
+pub fn section_cell_by_plane(
+    t: u8,
+    conn: &[u64],
+    xs: &[f64],
+    origin: &[f64],
+    normal: &[f64],
+    tol: f64,
+    numbers: &mut [f64],
+    nodes: &mut [u32],
+    ends: &mut [u32],
+) -> Section
+    ensures { λ r. ⌜ Gave
+        (planeCut t (now (conn .entry)) (now (xs .entry)) (now (origin .entry)) (now (normal .entry)) tol
+        (length (now (numbers .entry))) (length (now (nodes .entry))) (length (now (ends .entry))))
+        (meaning r) (now (numbers .entry)) (now (numbers .exit)) (now (nodes .entry)) (now (nodes .exit))
+        (now (ends .entry)) (now (ends .exit)) ⌝ }
+{
+    if t == SpaceType::PHED {
+        return section_phed(conn, xs, origin, normal, tol, numbers, nodes, ends);
+    }
+    section_fixed(t, conn, xs, origin, normal, tol, numbers, nodes, ends)
+}
+
+// The same for a polyhedron, whose faces can have 256 corners.
+fn section_phed(
+    conn: &[u64],
+    xs: &[f64],
+    origin: &[f64],
+    normal: &[f64],
+    tol: f64,
+    numbers: &mut [f64],
+    nodes: &mut [u32],
+    ends: &mut [u32],
+) -> Section
+    ensures { λ r. ⌜ Gave
+        (planeCut 18 (now (conn .entry)) (now (xs .entry)) (now (origin .entry)) (now (normal .entry)) tol
+        (length (now (numbers .entry))) (length (now (nodes .entry))) (length (now (ends .entry))))
+        (meaning r) (now (numbers .entry)) (now (numbers .exit)) (now (nodes .entry)) (now (nodes .exit))
+        (now (ends .entry)) (now (ends .exit)) ⌝ }
+{
+    let mut coords = [0.0f64; 768];
+    let mut stops = [0usize; 85];
+    let mut points = [0.0f64; 1152];
+    let mut space = [0.0f64; 2304];
+    let mut segments = [0.0f64; 1536];
+    section_within(
+        SpaceType::PHED,
+        conn,
+        xs,
+        origin,
+        normal,
+        tol,
+        &mut coords,
+        &mut stops,
+        &mut points,
+        &mut space,
+        &mut segments,
+        numbers,
+        nodes,
+        ends,
+    )
+}
+
+// The same for every other type: at most 24 face corners.
+fn section_fixed(
+    t: u8,
+    conn: &[u64],
+    xs: &[f64],
+    origin: &[f64],
+    normal: &[f64],
+    tol: f64,
+    numbers: &mut [f64],
+    nodes: &mut [u32],
+    ends: &mut [u32],
+) -> Section
+    requires { ⌜ (t ≡ 18 → ⊥) ⌝ }
+    ensures { λ r. ⌜ Gave
+        (planeCut t (now (conn .entry)) (now (xs .entry)) (now (origin .entry)) (now (normal .entry)) tol
+        (length (now (numbers .entry))) (length (now (nodes .entry))) (length (now (ends .entry))))
+        (meaning r) (now (numbers .entry)) (now (numbers .exit)) (now (nodes .entry)) (now (nodes .exit))
+        (now (ends .entry)) (now (ends .exit)) ⌝ }
+{
+    let mut coords = [0.0f64; 72];
+    let mut stops = [0usize; 6];
+    let mut points = [0.0f64; 108];
+    let mut space = [0.0f64; 216];
+    let mut segments = [0.0f64; 144];
+    section_within(
+        t,
+        conn,
+        xs,
+        origin,
+        normal,
+        tol,
+        &mut coords,
+        &mut stops,
+        &mut points,
+        &mut space,
+        &mut segments,
+        numbers,
+        nodes,
+        ends,
+    )
+}
+
+// Refusals 1 to 4, then the cut; the scratch slices are large enough for the type.
+fn section_within(
+    t: u8,
+    conn: &[u64],
+    xs: &[f64],
+    origin: &[f64],
+    normal: &[f64],
+    tol: f64,
+    coords: &mut [f64],
+    stops: &mut [usize],
+    points: &mut [f64],
+    space: &mut [f64],
+    segments: &mut [f64],
+    numbers: &mut [f64],
+    nodes: &mut [u32],
+    ends: &mut [u32],
+) -> Section
+    requires { ⌜ Scratch t (now stops) (now coords) (now points) (now space) (now segments) ⌝ }
+    ensures { λ r. ⌜ Gave
+        (planeCut t (now (conn .entry)) (now (xs .entry)) (now (origin .entry)) (now (normal .entry)) tol
+        (length (now (numbers .entry))) (length (now (nodes .entry))) (length (now (ends .entry))))
+        (meaning r) (now (numbers .entry)) (now (numbers .exit)) (now (nodes .entry)) (now (nodes .exit))
+        (now (ends .entry)) (now (ends .exit)) ⌝ }
+{
+    match cell::read_space_cell(t, conn, xs, coords, stops) {
+        Reading::Refused(k) => Section::Refused(k),
+        Reading::Cell { corners, faces } => section_faces(
+            origin,
+            normal,
+            tol,
+            corners,
+            coords,
+            &stops[..faces],
+            points,
+            space,
+            segments,
+            numbers,
+            nodes,
+            ends,
+        ),
+    }
+}
+
+// Refusals 5 and 6, then the cut of faces with m corners, whose coordinates stand in a row.
+fn section_faces(
+    origin: &[f64],
+    normal: &[f64],
+    tol: f64,
+    m: usize,
+    coords: &[f64],
+    stops: &[usize],
+    points: &mut [f64],
+    space: &mut [f64],
+    segments: &mut [f64],
+    numbers: &mut [f64],
+    nodes: &mut [u32],
+    ends: &mut [u32],
+) -> Section
+    requires { ⌜ Faces m (now stops) (now coords) (now points) (now space) (now segments) ⌝ }
+    ensures { λ r. ⌜ Gave
+        (andThen
+        (placedBy 3 (now (origin .entry)) (now (normal .entry))
+        (frameIn (planeOf (now (origin .entry)) (now (normal .entry)))))
+        (sectionIn tol m (length (now (numbers .entry))) (length (now (nodes .entry))) (length (now (ends .entry)))
+        (facesOf 3 (now (stops .entry)) (now (coords .entry)))))
+        (meaning r) (now (numbers .entry)) (now (numbers .exit)) (now (nodes .entry)) (now (nodes .exit))
+        (now (ends .entry)) (now (ends .exit)) ⌝ }
+{
+    match place(origin, normal) {
+        Placing::Refused(k) => Section::Refused(k),
+        Placing::On(plane) => {
+            section_on(
+                plane,
+                tol,
+                m,
+                coords,
+                stops,
+                points,
+                space,
+                segments,
+                numbers,
+                nodes,
+                ends,
+            )
+        }
+    }
+}
+
+// Refusal 7, then the cut by a plane.
+fn section_on(
+    plane: Plane,
+    tol: f64,
+    m: usize,
+    coords: &[f64],
+    stops: &[usize],
+    points: &mut [f64],
+    space: &mut [f64],
+    segments: &mut [f64],
+    numbers: &mut [f64],
+    nodes: &mut [u32],
+    ends: &mut [u32],
+) -> Section
+    requires { ⌜ Faces m (now stops) (now coords) (now points) (now space) (now segments) ⌝ }
+    ensures { λ r. ⌜ Gave
+        (sectionIn tol m (length (now (numbers .entry))) (length (now (nodes .entry))) (length (now (ends .entry)))
+        (facesOf 3 (now (stops .entry)) (now (coords .entry))) (frameOf plane))
+        (meaning r) (now (numbers .entry)) (now (numbers .exit)) (now (nodes .entry)) (now (nodes .exit))
+        (now (ends .entry)) (now (ends .exit)) ⌝ }
+{
+    if !room(
+        6 * m,
+        3 * m / 2,
+        m / 2,
+        numbers.len(),
+        nodes.len(),
+        ends.len(),
+    ) {
+        return Section::Refused(7);
+    }
+    Section::Cut(stitch_faces(
+        plane,
+        tol,
+        m,
+        coords,
+        stops,
+        points,
+        space,
+        segments,
+        numbers,
+        nodes,
+        ends,
+    ))
+}
+
+// The section by a plane of faces with m corners: their segments, stitched.
+pub fn stitch_faces(
+    plane: Plane,
+    tol: f64,
+    m: usize,
+    coords: &[f64],
+    stops: &[usize],
+    points: &mut [f64],
+    space: &mut [f64],
+    segments: &mut [f64],
+    numbers: &mut [f64],
+    nodes: &mut [u32],
+    ends: &mut [u32],
+) -> Stitched
+    requires { ⌜ Faces m (now stops) (now coords) (now points) (now space) (now segments)
+        × Roomy m (now numbers) (now nodes) (now ends) ⌝ }
+    ensures { λ r. ⌜ Answered (sectionOf (frameOf plane) tol (facesOf 3 (now (stops .entry)) (now (coords .entry)))) r
+        (now (numbers .entry)) (now (numbers .exit)) (now (nodes .entry)) (now (nodes .exit)) (now (ends .entry))
+        (now (ends .exit)) ⌝ }
+{
+    let s = clip::space::cell_segments(coords, stops, m, plane, tol, points, space, segments);
+    stitch::stitch_segments(segments, s, tol, numbers, nodes, ends)
+}
+
+// Whether buffers of lengths a, b and d hold x numbers, y nodes and z ends.
+fn room(x: usize, y: usize, z: usize, a: usize, b: usize, d: usize) -> bool
+    ensures { λ r. ⌜ r ≡ room x y z a b d ⌝ }
+{
+    if x <= a {
+        if y <= b {
+            return z <= d;
+        }
+    }
+    false
+}
+
+// The number of a refusal, or the plane that cuts.
+enum Placing {
+    Refused(u8),
+    On(Plane),
+}
+
+// The plane through origin with this normal, or refusal 5 or 6.
+fn place(origin: &[f64], normal: &[f64]) -> Placing
+    ensures { λ r. ⌜ placing r ≡ placedBy 3 (now (origin .entry)) (now (normal .entry))
+        (frameIn (planeOf (now (origin .entry)) (now (normal .entry)))) ⌝ }
+{
+    if origin.len() != 3 {
+        return Placing::Refused(5);
+    }
+    if normal.len() != 3 {
+        return Placing::Refused(5);
+    }
+    match Plane::new(vector::point3(origin, 0), vector::point3(normal, 0)) {
+        Placed::On(p) => Placing::On(p),
+        Placed::Nowhere => Placing::Refused(6),
+    }
+}

@@ -1,5 +1,5 @@
 -- What document 01 says of a cell and its segments: how many there are, and that only the corners matter. Statements only; the theorems
--- are in proofs/Section.antt.
+-- are in proofs/Claims.antt.
 use mathlib.Core.Path.{_≡_}
 use mathlib.Core.List.{List, [], _∷_}
 use Prim.Native.Nat.{ℕ, _≤_}

@@ -14,7 +14,7 @@ use Rattle.cell.proofs.Bounds.{space-bounded}
 use Rattle.clip.specs.Clip.{planeSectionSegments}
 use Rattle.clip.specs.Cell.{atMost, cellSegments, corners, cutBy}
 use Rattle.clip.proofs.Bound.{cell-bound}
-use Rattle.section.specs.Section.{CutAlikeInPlane, CutAlikeInSpace, SegmentsBounded, mostSegments}
+use Rattle.section.specs.Claims.{CutAlikeInPlane, CutAlikeInSpace, SegmentsBounded, mostSegments}
 
 corners-in-all : (ps : List Polygon) → corners ps ≡ length (flatten ps)
 unfolding flatten

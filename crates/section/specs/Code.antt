@@ -1,0 +1,83 @@
+-- What the clauses of the code cite. Definitions only.
+use mathlib.Core.List.{List}
+use mathlib.Core.Bool.{cond}
+use Prim.Native.Nat.{ℕ, _*_, _/_, _≤_}
+use lib.Dec.{eqb}
+use lib.ListN.{length}
+use lib.Ieee.{Float}
+use Rattle.vector.specs.View.{frameOf, vec2}
+use Rattle.vector.specs.Vector.{Frame, Vector}
+use Rattle.cell.specs.Read.{Polygon, spaceMost, facesMost}
+use Rattle.clip.specs.Cell.{atMost}
+use Rattle.clip.specs.Code.{Rising}
+use Rattle.stitch.specs.Stitch.{Answer}
+use Rattle.stitch.specs.declared.Stitched.{Stitched}
+use Rattle.section.specs.Outcome.{Outcome, refused, found, unless, room, Told, toldRefused, ToldTolerance}
+use Rattle.section.specs.Entries.{sectionOf}
+use Rattle.section.specs.declared.Section as S
+use Rattle.section.specs.declared.Section.the-variants as s
+use Rattle.section.specs.declared.Placing as P
+use Rattle.section.specs.declared.Placing.the-variants as p
+use Rattle.section.specs.declared.Tolerance as T
+use Rattle.section.specs.declared.Tolerance.the-variants as t
+
+-- ---- document 01's number and values for each case of an answer
+
+-- the counts of a section
+abbrev pub counted : Stitched → Told
+counted r =
+    record {
+      refusal = 0;
+      points = r .points;
+      nodes = r .nodes;
+      loops = r .loops;
+      listed = r .listed;
+      inLoops = r .«in_loops»;
+      flat = r .flat;
+      opened = r .opened;
+    }
+
+abbrev pub meaning : S.Section → Told
+meaning (s.Refused k) = toldRefused k
+meaning (s.Cut r) = counted r
+
+abbrev pub toleranceMeaning : T.Tolerance → ToldTolerance
+toleranceMeaning (t.Refused k) = record { refusal = k; value = Rattle.vector.specs.Number.f0 }
+toleranceMeaning (t.Of x) = record { refusal = 0; value = x }
+
+-- the plane that a placing found
+abbrev pub placing : P.Placing → Outcome Frame
+placing (p.Refused k) = refused k
+placing (p.On f) = found (frameOf f)
+
+-- ---- what the parts of a cut need
+
+-- m corners of faces whose ends are running totals, with room for what is worked out of them: the corners, the clipped points and the
+-- segments of a face, and the segments of the cell
+pub record Faces (m : ℕ) (stops : List ℕ) (coords points space segments : List Float) : Type 0 where
+  pub few : m ≤ 256
+  pub rising : Rising 0 stops m
+  pub for-corners : 3 * m ≤ length coords
+  pub for-points : 3 * atMost m ≤ length points
+  pub for-space : 6 * atMost m ≤ length space
+  pub for-segments : 4 * atMost m ≤ length segments
+
+-- buffers that hold the section of m corners
+pub record Roomy (m : ℕ) (numbers : List Float) (nodes ends : List ℕ) : Type 0 where
+  pub for-numbers : 6 * m ≤ length numbers
+  pub for-nodes : 3 * m / 2 ≤ length nodes
+  pub for-ends : m / 2 ≤ length ends
+
+-- room for a cell of type number t
+pub record Scratch (t : ℕ) (stops : List ℕ) (coords points space segments : List Float) : Type 0 where
+  pub for-ends : facesMost t ≤ length stops
+  pub for-corners : 3 * spaceMost t ≤ length coords
+  pub for-points : 3 * atMost (spaceMost t) ≤ length points
+  pub for-space : 6 * atMost (spaceMost t) ≤ length space
+  pub for-segments : 4 * atMost (spaceMost t) ≤ length segments
+
+-- ---- the last step of the plane cut
+
+-- 7, or the section of the polygons ps with m corners
+abbrev pub sectionIn : Float → ℕ → ℕ → ℕ → ℕ → List Polygon → Frame → Outcome Answer
+sectionIn tol m a b d ps f = unless 7 (room (6 * m) (3 * m / 2) (m / 2) a b d) (found (sectionOf f tol ps))
