@@ -1,3 +1,6 @@
-pub mod Claims
+pub mod Outcomes
+pub mod Stitching
 pub mod Seam
 pub mod Segments
+pub mod Reading
+pub mod Claims

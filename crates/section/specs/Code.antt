@@ -5,15 +5,14 @@ use Prim.Native.Nat.{ℕ, _*_, _/_, _≤_}
 use lib.Dec.{eqb}
 use lib.ListN.{length}
 use lib.Ieee.{Float}
-use Rattle.vector.specs.View.{frameOf, vec2}
-use Rattle.vector.specs.Vector.{Frame, Vector}
-use Rattle.cell.specs.Read.{Polygon, spaceMost, facesMost}
+use Rattle.vector.specs.Number.{f0}
+use Rattle.vector.specs.View.{frameOf}
+use Rattle.vector.specs.Vector.{Frame}
+use Rattle.cell.specs.Read.{spaceMost, facesMost}
 use Rattle.clip.specs.Cell.{atMost}
 use Rattle.clip.specs.Code.{Rising}
-use Rattle.stitch.specs.Stitch.{Answer}
 use Rattle.stitch.specs.declared.Stitched.{Stitched}
-use Rattle.section.specs.Outcome.{Outcome, refused, found, unless, room, Told, toldRefused, ToldTolerance}
-use Rattle.section.specs.Entries.{sectionOf}
+use Rattle.section.specs.Outcome.{Outcome, refused, found, Told, toldRefused, ToldTolerance}
 use Rattle.section.specs.declared.Section as S
 use Rattle.section.specs.declared.Section.the-variants as s
 use Rattle.section.specs.declared.Placing as P
@@ -42,7 +41,7 @@ meaning (s.Refused k) = toldRefused k
 meaning (s.Cut r) = counted r
 
 abbrev pub toleranceMeaning : T.Tolerance → ToldTolerance
-toleranceMeaning (t.Refused k) = record { refusal = k; value = Rattle.vector.specs.Number.f0 }
+toleranceMeaning (t.Refused k) = record { refusal = k; value = f0 }
 toleranceMeaning (t.Of x) = record { refusal = 0; value = x }
 
 -- the plane that a placing found
@@ -75,9 +74,3 @@ pub record Scratch (t : ℕ) (stops : List ℕ) (coords points space segments : 
   pub for-points : 3 * atMost (spaceMost t) ≤ length points
   pub for-space : 6 * atMost (spaceMost t) ≤ length space
   pub for-segments : 4 * atMost (spaceMost t) ≤ length segments
-
--- ---- the last step of the plane cut
-
--- 7, or the section of the polygons ps with m corners
-abbrev pub sectionIn : Float → ℕ → ℕ → ℕ → ℕ → List Polygon → Frame → Outcome Answer
-sectionIn tol m a b d ps f = unless 7 (room (6 * m) (3 * m / 2) (m / 2) a b d) (found (sectionOf f tol ps))

@@ -44,14 +44,17 @@ normalIn (along n) = found n
 abbrev pub sectionOf : Frame → Float → List Polygon → Answer
 sectionOf f tol ps = stitched tol (cellSegments (cutBy f tol) f ps)
 
--- of a cell of type t with the connectivity c and the coordinates xs, by the plane through o with the normal n;
--- a, b and d are the lengths of the buffers for numbers, nodes and ends
+-- 7: the buffers, whose lengths a, b and d are, hold the numbers, nodes and ends of a section of m face corners
+abbrev pub sectionIn : Float → ℕ → ℕ → ℕ → ℕ → List Polygon → Frame → Outcome Answer
+sectionIn tol m a b d ps f = unless 7 (room (6 * m) (3 * m / 2) (m / 2) a b d) (found (sectionOf f tol ps))
+
+-- 5 to 7: the section of polygons with m corners by the plane through o with the normal n
+abbrev pub cutPolygons : List Float → List Float → Float → ℕ → ℕ → ℕ → ℕ → List Polygon → Outcome Answer
+cutPolygons o n tol m a b d ps = andThen (placedBy 3 o n (frameIn (planeOf o n))) (sectionIn tol m a b d ps)
+
+-- of a cell of type t with the connectivity c and the coordinates xs
 abbrev pub planeCut : ℕ → List ℕ → List Float → List Float → List Float → Float → ℕ → ℕ → ℕ → Outcome Answer
-planeCut t c xs o n tol a b d =
-    andThen (polygonsOf (spaceCell t c xs)) (λ ps.
-    andThen (placedBy 3 o n (frameIn (planeOf o n))) (λ f.
-    let m = length (flatten ps) in
-    unless 7 (room (6 * m) (3 * m / 2) (m / 2) a b d) (found (sectionOf f tol ps))))
+planeCut t c xs o n tol a b d = andThen (polygonsOf (spaceCell t c xs)) (λ ps. cutPolygons o n tol (length (flatten ps)) a b d ps)
 
 -- ---- the line cut of a cell in space: one cell of `slice_line_3d`
 

@@ -6,9 +6,10 @@ ghost use Rattle.vector.specs.Vector.{planeOf};
 ghost use Rattle.vector.specs.View.{frameOf};
 ghost use Rattle.clip.specs.Cell.{facesOf};
 ghost use Rattle.stitch.specs.Code.{Gave as Answered};
-ghost use Rattle.section.specs.Outcome.{Gave, andThen, room};
-ghost use Rattle.section.specs.Entries.{frameIn, placedBy, planeCut, sectionOf};
-ghost use Rattle.section.specs.Code.{Faces, Roomy, Scratch, counted, meaning, placing, sectionIn};
+ghost use Rattle.section.specs.Outcome.{Gave, room, toldTolerance};
+ghost use Rattle.section.specs.Entries.{cutPolygons, frameIn, placedBy, planeCut, sectionIn, sectionOf};
+ghost use Rattle.section.specs.Entries.{stitchAlone, toleranceOf};
+ghost use Rattle.section.specs.Code.{Faces, Roomy, Scratch, meaning, placing, toleranceMeaning};
 use cell::Reading;
 use cell::SpaceType;
 use stitch::Stitched;
@@ -52,7 +53,54 @@ pub fn section_cell_by_plane(
     section_fixed(t, conn, xs, origin, normal, tol, numbers, nodes, ends)
 }
 
-// The same for a polyhedron, whose faces can have 256 corners.
+// Stitching alone: segments of four numbers each, at most 384.
+pub fn stitch_alone(
+    segments: &[f64],
+    tol: f64,
+    numbers: &mut [f64],
+    nodes: &mut [u32],
+    ends: &mut [u32],
+) -> Section
+    ensures { λ r. ⌜ Gave
+        (stitchAlone (now (segments .entry)) tol (length (now (numbers .entry))) (length (now (nodes .entry)))
+        (length (now (ends .entry))))
+        (meaning r) (now (numbers .entry)) (now (numbers .exit)) (now (nodes .entry)) (now (nodes .exit))
+        (now (ends .entry)) (now (ends .exit)) ⌝ }
+{
+    let s = segments.len() / 4;
+    if segments.len() % 4 != 0 {
+        return Section::Refused(8);
+    }
+    if s > 384 {
+        return Section::Refused(8);
+    }
+    if !room(4 * s, s, s / 3, numbers.len(), nodes.len(), ends.len()) {
+        return Section::Refused(7);
+    }
+    Section::Cut(stitch::stitch_segments(segments, s, tol, numbers, nodes, ends))
+}
+
+// The tolerance of a mesh in space, by its coordinates.
+pub fn tolerance_in_space(xs: &[f64]) -> Tolerance
+    ensures { λ r. ⌜ toleranceMeaning r ≡ toldTolerance (toleranceOf 3 (now (xs .entry))) ⌝ }
+{
+    if xs.len() % 3 != 0 {
+        return Tolerance::Refused(3);
+    }
+    Tolerance::Of(vector::slice_tolerance(xs, 3))
+}
+
+// The tolerance of a mesh in the plane.
+pub fn tolerance_in_plane(xs: &[f64]) -> Tolerance
+    ensures { λ r. ⌜ toleranceMeaning r ≡ toldTolerance (toleranceOf 2 (now (xs .entry))) ⌝ }
+{
+    if xs.len() % 2 != 0 {
+        return Tolerance::Refused(3);
+    }
+    Tolerance::Of(vector::slice_tolerance(xs, 2))
+}
+
+// The plane cut of a polyhedron, whose faces can have 256 corners.
 fn section_phed(
     conn: &[u64],
     xs: &[f64],
@@ -194,11 +242,9 @@ fn section_faces(
 ) -> Section
     requires { ⌜ Faces m (now stops) (now coords) (now points) (now space) (now segments) ⌝ }
     ensures { λ r. ⌜ Gave
-        (andThen
-        (placedBy 3 (now (origin .entry)) (now (normal .entry))
-        (frameIn (planeOf (now (origin .entry)) (now (normal .entry)))))
-        (sectionIn tol m (length (now (numbers .entry))) (length (now (nodes .entry))) (length (now (ends .entry)))
-        (facesOf 3 (now (stops .entry)) (now (coords .entry)))))
+        (cutPolygons (now (origin .entry)) (now (normal .entry)) tol m (length (now (numbers .entry)))
+        (length (now (nodes .entry))) (length (now (ends .entry)))
+        (facesOf 3 (now (stops .entry)) (now (coords .entry))))
         (meaning r) (now (numbers .entry)) (now (numbers .exit)) (now (nodes .entry)) (now (nodes .exit))
         (now (ends .entry)) (now (ends .exit)) ⌝ }
 {

@@ -1,0 +1,54 @@
+-- `section_fixed` meets its contract. Assumes nothing.
+use Rattle.section.proofs.Reading.{fixed-scratch}
+use borrow.Author.Needs.{needs}
+use Rattle.section.proofs.section_fixed.Statement.{statement}
+use Rattle.section.proofs.section_fixed.Tie as tie
+use Rattle.section.proofs.section_fixed.Reads as reads
+use Rattle.section.proofs.section_fixed.Lts as lts
+use Rattle.section.proofs.section_within.Reads as section-within-reads
+
+slice-aggregate-section-within : tie.Need-slice-aggregate-section-within
+slice-aggregate-section-within c = search needs
+
+slice-aggregate-section-within-2 : tie.Need-slice-aggregate-section-within-2
+slice-aggregate-section-within-2 c = search needs
+
+slice-aggregate-section-within-3 : tie.Need-slice-aggregate-section-within-3
+slice-aggregate-section-within-3 c = search needs
+
+slice-aggregate-section-within-4 : tie.Need-slice-aggregate-section-within-4
+slice-aggregate-section-within-4 c = search needs
+
+slice-aggregate-section-within-5 : tie.Need-slice-aggregate-section-within-5
+slice-aggregate-section-within-5 c = search needs
+
+section-within-requires : tie.Need-section-within-requires
+section-within-requires c κs =
+    fixed-scratch (c .before .before .before .before .before .before .before .before .before .before .before .before .before .before .before .pre) (search needs)
+
+same-length : tie.Need-same-length
+same-length c = search needs
+
+same-length-2 : tie.Need-same-length-2
+same-length-2 c = search needs
+
+same-length-3 : tie.Need-same-length-3
+same-length-3 c = search needs
+
+returns : tie.Need-returns
+returns c = search needs
+
+pub section-fixed-spec : {M : Type 1} → statement M
+section-fixed-spec =
+    tie.close
+    (tie.spec
+    slice-aggregate-section-within
+    slice-aggregate-section-within-2
+    slice-aggregate-section-within-3
+    slice-aggregate-section-within-4
+    slice-aggregate-section-within-5
+    section-within-requires
+    same-length
+    same-length-2
+    same-length-3
+    returns)

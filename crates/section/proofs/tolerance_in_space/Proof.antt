@@ -1,0 +1,24 @@
+-- `tolerance_in_space` meets its contract. Assumes nothing.
+use mathlib.Core.Path.{ap, sym}
+use Rattle.section.specs.Outcome.{toldTolerance}
+use Rattle.section.proofs.Outcomes.{not-rows, rows-fit}
+use borrow.Author.Needs.{needs}
+use Rattle.section.proofs.tolerance_in_space.Statement.{statement}
+use Rattle.section.proofs.tolerance_in_space.Tie as tie
+use Rattle.section.proofs.tolerance_in_space.Reads as reads
+use Rattle.section.proofs.tolerance_in_space.Lts as lts
+use Rattle.vector.proofs.slice_tolerance.Reads as slice-tolerance-reads
+
+returns : tie.Need-returns
+returns c =
+    sym (ap toldTolerance (not-rows 3 (c .before .before .args .xs .now) (c .if1 .taken)))
+
+slice-tolerance-requires : tie.Need-slice-tolerance-requires
+slice-tolerance-requires c κs = search needs
+
+returns-2 : tie.Need-returns-2
+returns-2 c =
+    rw (c .slice-tolerance .ensures) (sym (ap toldTolerance (rows-fit 3 (c .before .before .before .args .xs .now) (c .before .if1 .left))))
+
+pub tolerance-in-space-spec : {M : Type 1} → statement M
+tolerance-in-space-spec = tie.close (tie.spec returns slice-tolerance-requires returns-2)
