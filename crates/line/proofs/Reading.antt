@@ -9,37 +9,23 @@ use lib.Dec.{eqb, leb}
 use lib.Ieee.{Float}
 use lib.ListN.{length}
 use Rattle.vector.specs.Rows.{rows, over}
-use Rattle.cell.specs.Read.{Polygon, Read, refused, read, told, meaning, refusal, counts, Gave, coordsOf, planeCell, planeMost}
+use Rattle.cell.specs.Read.{Polygon, Read, refused, read, Gave, Faced, coordsOf, endsOf, planeCell, planeMost}
 use Rattle.cell.specs.declared.Reading.{Reading}
 use Rattle.cell.specs.declared.Reading.the-variants.{Refused, Cell}
 use Rattle.clip.specs.Clip.{Cut, planeSectionSegments}
 use Rattle.section.specs.Outcome as O
 use Rattle.section.specs.Entries.{polygonsOf, polygonSegments}
-use Rattle.section.proofs.Seam.{OnePolygon, plane-seam}
+use Rattle.section.proofs.Reading as R
+use Rattle.section.proofs.Seam.{plane-seam}
 use Rattle.line.specs.Code.{cellCut, segmentsIn}
 
--- ---- by the answer
+-- ---- by the answer; no ends are written
 
-told-refused : (o : Read) (k : ℕ) → refusal k ≡ told o → o ≡ refused k
-told-refused (refused j) k e = cc
-told-refused (read ps) k e = let z : _≡_ {A = ℕ} 0 1 = cc in absurd (omega arith)
+faced : {o : Read} {r : Reading} {out out′ : List Float} → Gave o r out out′ → Faced o r out out′ [] (over (endsOf o) [])
+faced g = record { gave = g; places = refl }
 
 pub was-refused : {o : Read} {r : Reading} {k : ℕ} {out out′ : List Float} → Gave o r out out′ → r ≡ Refused k → o ≡ refused k
-was-refused {o} {k = k} g e = told-refused o k (ap meaning (sym e) ∙ g .answer)
-
--- the polygons that were read: m corners in f polygons
-pub record WasRead (o : Read) (m f : ℕ) : Type 0 where
-  pub polygons : List Polygon
-  pub is : o ≡ read polygons
-  pub corners : m ≡ length (flatten polygons)
-  pub faces : f ≡ length polygons
-
-told-read : (o : Read) (m f : ℕ) → counts m f ≡ told o → WasRead o m f
-told-read (refused j) m f e = let z : _≡_ {A = ℕ} 0 1 = cc in absurd (omega arith)
-told-read (read ps) m f e = record { polygons = ps; is = refl; corners = cc; faces = cc }
-
-pub was-read : {o : Read} {r : Reading} {m f : ℕ} {out out′ : List Float} → Gave o r out out′ → r ≡ Cell m f → WasRead o m f
-was-read {o} {m = m} {f = f} g e = told-read o m f (ap meaning (sym e) ∙ g .answer)
+was-refused g e = R.was-refused (faced g) e
 
 -- ---- a cell in the plane
 
@@ -65,7 +51,7 @@ pub record PolygonIn (t : ℕ) (o : Read) (m : ℕ) (out : List Float) : Type 0 
 pub polygon-in : (t : ℕ) (c : List ℕ) (xs : List Float) {r : Reading} {m f : ℕ} {out out′ : List Float} → Gave (planeCell t c xs) r out out′
     → r ≡ Cell m f → PolygonIn t (planeCell t c xs) m out′
 polygon-in t c xs {m = m} {out = out} {out′ = out′} g e =
-    let r = was-read g e in
+    let r = R.was-cell (faced g) e in
     let ps = r .polygons in
     let one = plane-seam t c xs ps (r .is) out in
     let p = one .polygon in

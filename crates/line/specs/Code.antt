@@ -1,20 +1,26 @@
 -- What the clauses of the code cite. The entries themselves are `lineCut`, `byNormal` and `byDirection` in section/specs/Entries.antt.
 -- Definitions only.
-use mathlib.Core.List.{List, [], _∷_, _++_, map, flatten}
-use Prim.Native.Nat.{ℕ, _*_, _≤_, _<_}
+use mathlib.Core.List.{List, map, flatten}
+use Prim.Native.Nat.{ℕ, _*_, _≤_}
 use lib.Dec.{leb}
-use lib.ListN.{length, getD}
+use lib.ListN.{length}
 use lib.Ieee.{Float}
-use Rattle.vector.specs.Vector.{Vector, Direction, Frame}
+use Rattle.vector.specs.Vector.{Vector, Direction, Frame, lineOf}
 use Rattle.vector.specs.View.{frameOf}
-use Rattle.vector.specs.Rows.{Seg, row}
+use Rattle.vector.specs.Rows.{Seg}
 use Rattle.cell.specs.Read.{Polygon, planeCell}
 use Rattle.clip.specs.Clip.{Cut, planeSectionSegments}
+use Rattle.clip.specs.Cell.{atMost}
+use Rattle.clip.specs.Code.{Rising}
 use Rattle.clip.specs.View.{cut2}
+use Rattle.stitch.specs.Code.{Below, cut}
 use Rattle.section.specs.Outcome.{Outcome, refused, found, andThen, unless, ToldLine}
-use Rattle.section.specs.Entries.{polygonsOf, placedBy, normalIn, polygonSegments}
+use Rattle.section.specs.Entries.{frameIn, lineOfSection, loopsSegments, normalIn, placedBy, polygonSegments, polygonsOf}
+use Rattle.section.specs.Entries.{sectionOf, segmentOnLine}
 use Rattle.line.specs.declared.Line as L
 use Rattle.line.specs.declared.Line.the-variants as l
+use Rattle.line.specs.declared.Placing as P
+use Rattle.line.specs.declared.Placing.the-variants as p
 use Rattle.line.specs.declared.Cutting as C
 use Rattle.line.specs.declared.Cutting.the-variants as c
 
@@ -22,6 +28,40 @@ use Rattle.line.specs.declared.Cutting.the-variants as c
 abbrev pub meaning : L.Line → ToldLine
 meaning (l.Refused k) = record { refusal = k; segments = 0 }
 meaning (l.Cut n) = record { refusal = 0; segments = n }
+
+-- ---- a cell in space
+
+-- 7, or the line cut of polygons with m corners; a is the length of the buffer
+abbrev pub lineIn : Float → ℕ → ℕ → List Polygon → Frame → Outcome (List Seg)
+lineIn tol m a ps f = unless 7 (leb (14 * m) a) (found (lineOfSection f tol (sectionOf f tol ps)))
+
+-- 5 to 7: the same by the line through o with the direction d
+abbrev pub linePolygons : List Float → List Float → Float → ℕ → ℕ → List Polygon → Outcome (List Seg)
+linePolygons o d tol m a ps = andThen (placedBy 3 o d (frameIn (lineOf o d))) (lineIn tol m a ps)
+
+-- the plane that holds the line, or why there is none
+abbrev pub placing : P.Placing → Outcome Frame
+placing (p.Refused k) = refused k
+placing (p.On f) = found (frameOf f)
+
+-- the segments on the line of loops whose nodes stand in a row and end at `ends`
+abbrev pub onLineOf : Frame → Float → List Vector → List ℕ → List ℕ → List Seg
+onLineOf f tol ps ends nodes = map (segmentOnLine f) (loopsSegments tol ps (cut 0 ends nodes))
+
+-- nodes among p points, with room for a polygon of them, its clipped points and its segments
+pub record Loop (p : ℕ) (points : List Float) (nodes : List ℕ) (polygon clipped flat : List Float) : Type 0 where
+  pub points-room : 2 * p ≤ length points
+  pub below : Below p nodes
+  pub few : length nodes ≤ 384
+  pub for-polygon : 2 * length nodes ≤ length polygon
+  pub for-clipped : 2 * atMost (length nodes) ≤ length clipped
+  pub for-flat : 4 * atMost (length nodes) ≤ length flat
+
+-- the nodes of loops that end at running totals, with room for all that is worked out of them
+pub record Loops (p : ℕ) (points : List Float) (nodes ends : List ℕ) (polygon clipped flat numbers : List Float) : Type 0 where
+  pub each : Loop p points nodes polygon clipped flat
+  pub rising : Rising 0 ends (length nodes)
+  pub for-numbers : 6 * atMost (length nodes) ≤ length numbers
 
 -- ---- a cell in the plane
 

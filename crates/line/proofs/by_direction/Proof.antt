@@ -1,7 +1,7 @@
 -- `by_direction` meets its contract. Assumes nothing.
 use mathlib.Core.Path.{_∙_}
 use Rattle.vector.specs.Vector.{normalAlong}
-use Rattle.line.proofs.Placing.{line-made, line-origin-long, line-vector-long}
+use Rattle.line.proofs.LineBy.{line-made, line-origin-long, line-vector-long}
 use borrow.Author.Needs.{needs}
 use Rattle.line.proofs.by_direction.Statement.{statement}
 use Rattle.line.proofs.by_direction.Tie as tie

@@ -1,6 +1,6 @@
 -- `cut_polygon` meets its contract. Assumes nothing.
 use Rattle.line.proofs.Answers.{gave-refusal, gave-same}
-use Rattle.line.proofs.Placing.{line-placed, unplaced}
+use Rattle.line.proofs.LineBy.{line-placed, unplaced}
 use borrow.Author.Needs.{needs}
 use Rattle.line.proofs.cut_polygon.Statement.{statement}
 use Rattle.line.proofs.cut_polygon.Tie as tie

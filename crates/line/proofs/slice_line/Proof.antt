@@ -2,7 +2,7 @@
 use lib.ListN.{length}
 use Rattle.vector.specs.Vector.{normalAlong}
 use Rattle.line.proofs.Answers.{gave-same}
-use Rattle.line.proofs.Placing.{placed-first}
+use Rattle.line.proofs.LineBy.{placed-first}
 use borrow.Author.Needs.{needs}
 use Rattle.line.proofs.slice_line.Statement.{statement}
 use Rattle.line.proofs.slice_line.Tie as tie
