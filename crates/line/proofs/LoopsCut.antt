@@ -6,17 +6,18 @@ use native.Mathlib.Numerals.{add-one}
 use native.Mathlib.Omega.{arith}
 use lib.Ieee.{Float}
 use lib.ListN.{length, getD, take, drop, length-append, length-drop, length-map, drop-of-length-le}
-use lib.Seq.{drop-cons, drop-drop, length-take-le}
+use lib.Seq.{drop-cons, drop-drop, getD-drop, getD-take, length-take-le}
 use Rattle.vector.specs.Vector.{Vector, Frame}
-use Rattle.vector.specs.Rows.{segs}
+use Rattle.vector.specs.Rows.{rows, segs}
 use Rattle.vector.proofs.Rows.{drop-later, segs-length}
 use Rattle.clip.specs.Cell.{atMost}
-use Rattle.clip.specs.Code.{Rising, Segments}
+use Rattle.clip.specs.Clip.{Cut, planeSectionSegments}
+use Rattle.clip.specs.Code.{Points, Rising, Segments}
 use Rattle.clip.proofs.Bound.{section-bound}
 use Rattle.stitch.specs.Walk.{pointAt}
 use Rattle.stitch.specs.Code.{cut}
 use Rattle.section.specs.Entries.{axis, loopSegments, loopsSegments, segmentOnLine}
-use Rattle.line.specs.Code.{onLineOf}
+use Rattle.line.specs.Code.{Loop, Loops, onLineOf}
 
 rising-most : (s : ℕ) (es : List ℕ) (m : ℕ) → Rising s es m → s ≤ m
 rising-most s [] m h = h
@@ -25,6 +26,19 @@ rising-most s (e ∷ es) m h = omega (arith, h .0, rising-most e es m (h .1))
 -- a loop of n nodes gives at most floor(3n / 2) segments
 pub loop-bound : (tol : Float) (ps : List Vector) (l : List ℕ) → length (loopSegments tol ps l) ≤ atMost (length l)
 loop-bound tol ps l = omega (arith, section-bound (axis tol) (map (pointAt ps) l), length-map l (pointAt ps))
+
+-- the segments of the polygon of a loop's points are the loop's
+module _ (tol : Float) (ps : List Vector) (nodes : List ℕ) where
+  pub loop-segments : {c : Cut} {xs zs flat flat′ : List Float} {k : ℕ} → c ≡ axis tol → Points 2 xs (map (pointAt ps) nodes) (length nodes) zs
+      → Segments 2 flat (planeSectionSegments c (rows 2 (length nodes) zs)) k flat′ → Segments 2 flat (loopSegments tol ps nodes) k flat′
+  loop-segments {c} e p h =
+      record {
+        are = h .are ∙ ap (planeSectionSegments c) (p .are) ∙ ap (λ c. planeSectionSegments c (map (pointAt ps) nodes)) e;
+        rest = h .rest;
+      }
+
+  pub loop-few : {flat flat′ : List Float} {k : ℕ} → Segments 2 flat (loopSegments tol ps nodes) k flat′ → k ≤ atMost (length nodes)
+  loop-few {flat′ = flat′} {k = k} h = omega (arith, sym (segs-length 2 k flat′) ∙ ap length (h .are), loop-bound tol ps nodes)
 
 -- i of the loops are passed, s nodes and k segments
 pub record LoopsCut (f : Frame) (tol : Float) (ps : List Vector) (nodes ends : List ℕ) (xs : List Float) (i s k : ℕ) (zs : List Float) : Type 0
@@ -63,6 +77,35 @@ module _ {f : Frame} {tol : Float} {ps : List Vector} {nodes ends : List ℕ} {x
     loop-length : length (loop (getD ends i 0)) ≡ getD ends i 0 - s
     loop-length =
         length-take-le (getD ends i 0 - s) (drop s nodes) (omega (arith, loop-from, loop-to, length-drop s nodes))
+
+    -- the loop has the room that all loops have
+    pub loop-ready : {p : ℕ} {points polygon clipped flat polygon′ clipped′ flat′ : List Float}
+        → Loops p points nodes ends polygon clipped flat xs → (e : ℕ) → e ≡ getD ends i 0
+        → length polygon′ ≡ length polygon → length clipped′ ≡ length clipped → length flat′ ≡ length flat
+        → Loop p points (loop e) polygon′ clipped′ flat′ × (6 * (k + atMost (length (loop e))) ≤ length zs)
+    loop-ready {p} y e q lp lc lf =
+        let l : length (loop e) ≡ e - s = rw q loop-length in
+        let low : s ≤ e = omega (arith, loop-from) in
+        let high : e ≤ length nodes = omega (arith, loop-to) in
+        let a = y .each in
+        let few = a .few in
+        let x = a .for-polygon in
+        let z = a .for-clipped in
+        let w = a .for-flat in
+        let o = y .for-numbers in (
+          record {
+            points-room = a .points-room;
+            below = λ j h.
+                let t : getD (loop e) j 0 ≡ getD nodes (s + j) 0
+                = getD-take (e - s) (drop s nodes) j 0 (omega arith) ∙ getD-drop s nodes j 0 in
+                omega (arith, a .below (s + j) (omega arith));
+            few = omega arith;
+            for-polygon = omega arith;
+            for-clipped = omega arith;
+            for-flat = omega arith;
+          },
+          omega (arith, v .few, v .same-length),
+        )
 
     split : cut s (drop i ends) (drop s nodes)
         ≡ loop (getD ends i 0) ∷ cut (getD ends i 0) (drop (i + 1) ends) (drop (getD ends i 0) nodes)
