@@ -7,17 +7,19 @@ use native.Mathlib.Omega.{arith}
 use borrow.Author.Tests.{ne-eqb}
 use lib.Dec.{eqb, leb}
 use lib.Ieee.{Float}
-use lib.ListN.{length}
+use lib.ListN.{length, take}
 use Rattle.vector.specs.Rows.{rows, over}
-use Rattle.cell.specs.Read.{Polygon, Read, refused, read, Gave, Faced, coordsOf, endsOf, planeCell, planeMost}
+use Rattle.cell.specs.Read.{Polygon, Read, refused, read, Gave, Faced, coordsOf, endsOf, planeCell, planeMost, spaceCell, spaceMost}
 use Rattle.cell.specs.declared.Reading.{Reading}
 use Rattle.cell.specs.declared.Reading.the-variants.{Refused, Cell}
 use Rattle.clip.specs.Clip.{Cut, planeSectionSegments}
+use Rattle.clip.specs.Cell.{facesOf}
 use Rattle.section.specs.Outcome as O
-use Rattle.section.specs.Entries.{polygonsOf, polygonSegments}
+use Rattle.section.specs.Entries.{lineCut, polygonsOf, polygonSegments}
+use Rattle.section.specs.Code.{Roomy}
 use Rattle.section.proofs.Reading as R
-use Rattle.section.proofs.Seam.{plane-seam}
-use Rattle.line.specs.Code.{cellCut, segmentsIn}
+use Rattle.section.proofs.Seam.{corners-most, plane-seam}
+use Rattle.line.specs.Code.{cellCut, linePolygons, segmentsIn}
 
 -- ---- by the answer; no ends are written
 
@@ -26,6 +28,42 @@ faced g = record { gave = g; places = refl }
 
 pub was-refused : {o : Read} {r : Reading} {k : ℕ} {out out′ : List Float} → Gave o r out out′ → r ≡ Refused k → o ≡ refused k
 was-refused g e = R.was-refused (faced g) e
+
+-- ---- a cell in space
+
+-- the line cut of a cell that was refused
+pub line-refused : {k : ℕ} (t : ℕ) (c : List ℕ) (xs o d : List Float) (tol : Float) (a : ℕ) → spaceCell t c xs ≡ refused k
+    → lineCut t c xs o d tol a ≡ O.refused k
+line-refused t c xs o d tol a e = ap (λ k. O.andThen (polygonsOf k) (λ ps. linePolygons o d tol (length (flatten ps)) a ps)) e
+
+module _ (t : ℕ) (c : List ℕ) (xs : List Float) {r : Reading} {coords coords′ : List Float} {stops stops′ : List ℕ}
+    (h : Faced (spaceCell t c xs) r coords coords′ stops stops′) {m f : ℕ} (e : r ≡ Cell m f) where
+  -- the line cut of a cell that was read is that of the faces that were written
+  pub line-of-faces : (o d : List Float) (tol : Float) (a : ℕ)
+      → lineCut t c xs o d tol a ≡ linePolygons o d tol m a (facesOf 3 (take f stops′) coords′)
+  line-of-faces o d tol a =
+      let p = R.cell t c xs h e in
+      ap (λ k. O.andThen (polygonsOf k) (λ ps. linePolygons o d tol (length (flatten ps)) a ps)) (p .is)
+      ∙ ap (λ k. linePolygons o d tol k a (p .polygons)) (sym (p .corners))
+      ∙ ap (λ ps. linePolygons o d tol m a ps) (sym (R.faces-are t c xs h e))
+
+  -- what holds the section of any cell of the type holds that of this one
+  pub section-room : {numbers : List Float} {nodes ends : List ℕ} → Roomy (spaceMost t) numbers nodes ends → Roomy m numbers nodes ends
+  section-room y =
+      let p = R.cell t c xs h e in
+      let n : length (flatten (p .polygons)) ≤ spaceMost t = corners-most t c xs (p .polygons) (p .is) in
+      let k = p .corners in
+      let a = y .for-numbers in
+      let b = y .for-nodes in
+      let d = y .for-ends in
+      record { for-numbers = omega arith; for-nodes = omega arith; for-ends = omega arith }
+
+-- every type but PHED has the room of TET4's tier
+pub fixed-room : {t : ℕ} {numbers : List Float} {nodes ends : List ℕ} → (t ≡ 18 → ⊥) → Roomy (spaceMost 12) numbers nodes ends
+    → Roomy (spaceMost t) numbers nodes ends
+fixed-room {t} {numbers} {nodes} {ends} h y =
+    let e : spaceMost t ≡ 24 = rw (ne-eqb t 18 h) in
+    subst (λ m. Roomy m numbers nodes ends) (sym e) y
 
 -- ---- a cell in the plane
 

@@ -1,32 +1,43 @@
 -- The section of a cell is ready to be cut by y = 0: its nodes are points of it, its loops end at running totals, and the slices that
 -- were lent for the section hold what comes of them. Assumes nothing.
 use mathlib.Core.Path.{_≡_, refl, sym, ap, _∙_, subst}
-use mathlib.Core.List.{List, [], _∷_, _++_, append-assoc, flatten, map}
+use mathlib.Core.List.{List, [], _∷_, _++_, flatten, map}
 use mathlib.Core.Bool.{Bool, true, false}
 use Prim.Native.Nat.{ℕ, zero, suc, _+_, _-_, _*_, _/_, _≤_, _<_, min, max}
 use native.Mathlib.Omega.{arith}
 use borrow.Author.Tests.{ltb-false, ltb-true}
 use lib.Dec.{ltb}
 use lib.Ieee.{Float, binary64, mul}
-use lib.ListN.{length, getD, take, drop, length-append}
+use lib.ListN.{length, getD, take, drop, length-append, length-map}
 use lib.Seq.{take-at, drop-at}
-use Rattle.vector.specs.Vector.{Frame}
-use Rattle.vector.specs.Rows.{Seg, endsFrom, over, rows}
+use Rattle.vector.specs.Vector.{Vector, Frame}
+use Rattle.vector.specs.Rows.{Seg, endsFrom, rows}
+use Rattle.vector.proofs.Rows.{rows-length}
 use Rattle.cell.proofs.Lists.{length-ends}
-use Rattle.clip.specs.Cell.{atMost, cellSegments, cutBy, facesOf}
+use Rattle.clip.specs.Cell.{atMost, cellSegments, corners, cutBy, facesFrom, facesOf}
+use Rattle.clip.proofs.Bound.{cell-bound}
 use Rattle.clip.specs.Code.{Rising}
-use Rattle.weld.specs.Weld.{Edge, Within, between, edge, listed, listedEdges, weldedPoints}
+use Rattle.weld.specs.Weld.{Edge, Within, between, listed, listedEdges, weldedPoints}
 use Rattle.weld.proofs.Edges.{listed-within, newer-unlisted}
 use Rattle.stitch.specs.Claim.{All, lastOr, sides, steps}
 use Rattle.stitch.specs.Code.{Below, cut, Gave}
-use Rattle.stitch.specs.Stitch.{Answer, stitched, stitchedWithin}
+use Rattle.stitch.specs.Stitch.{Answer, stitched}
 use Rattle.stitch.specs.declared.Stitched.{Stitched}
 use Rattle.stitch.proofs.Claim.{claim}
-use Rattle.section.specs.Entries.{lineOfSection, loopsSegments, sectionOf, segmentOnLine}
+use Rattle.section.specs.Entries.{lineOfSection, loopSegments, loopsSegments, sectionOf, segmentOnLine}
 use Rattle.section.specs.Code.{Faces, Roomy}
 use Rattle.section.proofs.Seam.{rising-ends}
 use Rattle.section.proofs.Stitching.{few-segments}
-use Rattle.line.specs.Code.{Loop, Loops, onLineOf}
+use Rattle.line.specs.Code.{Loops, onLineOf}
+use Rattle.line.specs.Claims.{LineBounded}
+use Rattle.line.proofs.LoopsCut.{loop-bound}
+
+-- faces that end at rising totals up to m have at most m corners
+corners-within : (w s : ℕ) (es : List ℕ) (m : ℕ) (xs : List Float) → Rising s es m → s + corners (facesFrom w s es xs) ≤ m
+corners-within w s [] m xs h = omega arith
+corners-within w s (e ∷ es) m xs h =
+    let n = rows-length w (e - s) (drop (w * s) xs) in
+    omega (arith, h .0, corners-within w e es m xs (h .1))
 
 -- ---- the nodes of loops are welded points
 
@@ -120,6 +131,38 @@ module _ {a : Answer} {r : Stitched} {numbers numbers′ : List Float} {nodes no
       ∙ ap (λ es. onLineOf f tol (a .points) es (take (r .nodes) nodes′)) ends-taken
       ∙ ap (λ ns. onLineOf f tol (a .points) (endsFrom 0 (a .loops)) ns) nodes-taken
       ∙ ap (λ ls. map (segmentOnLine f) (loopsSegments tol (a .points) ls)) (cut-ends 0 (a .loops))
+
+-- ---- how many segments
+
+loops-bound : (tol : Float) (ps : List Vector) (ls : List (List ℕ)) → length (loopsSegments tol ps ls) ≤ atMost (length (flatten ls))
+unfolding flatten
+loops-bound tol ps [] = omega arith
+loops-bound tol ps (l ∷ ls) =
+    omega (
+      arith,
+      length-append (loopSegments tol ps l) (loopsSegments tol ps ls),
+      length-append l (flatten ls),
+      loop-bound tol ps l,
+      loops-bound tol ps ls,
+    )
+
+pub line-bound : LineBounded
+line-bound f tol ps =
+    let ss = cellSegments (cutBy f tol) f ps in
+    let a = stitched tol ss in
+    let b : length ss ≤ atMost (corners ps) = cell-bound (cutBy f tol) f ps in
+    let n = claim (mul binary64 tol tol) ss .few-nodes in
+    omega (
+      arith,
+      length-map (loopsSegments tol (a .points) (a .loops)) (segmentOnLine f),
+      loops-bound tol (a .points) (a .loops),
+    )
+
+-- so they fit the buffer
+pub line-fits : (f : Frame) (tol : Float) (m : ℕ) (stops : List ℕ) (coords : List Float) (a r : ℕ) → Rising 0 stops m → 14 * m ≤ a
+    → r ≡ length (lineOfSection f tol (sectionOf f tol (facesOf 3 stops coords))) → 3 * (2 * r) ≤ a
+line-fits f tol m stops coords a r h room e =
+    omega (arith, line-bound f tol (facesOf 3 stops coords), corners-within 3 0 stops m coords h)
 
 -- ---- what the cut of the loops needs
 
