@@ -1,0 +1,7 @@
+pub mod Answers
+pub mod LineBy
+pub mod Reading
+pub mod Corners
+pub mod Carrying
+pub mod LoopsCut
+pub mod Sections

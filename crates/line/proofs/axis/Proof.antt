@@ -1,0 +1,14 @@
+-- `axis` meets its contract. Assumes nothing.
+use mathlib.Core.Path.{refl}
+use lib.Ieee.{ofBits}
+use Rattle.line.proofs.axis.Statement.{statement}
+use Rattle.line.proofs.axis.Tie as tie
+use Rattle.line.proofs.axis.Reads as reads
+use Rattle.line.proofs.axis.Lts as lts
+
+returns : tie.Need-returns
+unfolding ofBits
+returns c = refl
+
+pub axis-spec : {M : Type 1} → statement M
+axis-spec = tie.close (tie.spec returns)

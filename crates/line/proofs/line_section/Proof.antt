@@ -1,0 +1,83 @@
+-- `line_section` meets its contract. Assumes nothing.
+use mathlib.Core.Path.{sym}
+use lib.Seq.{length-take-le}
+use Rattle.vector.specs.View.{frameOf}
+use Rattle.line.proofs.Sections.{ends-there, line-of, loops-ready, nodes-there}
+use borrow.Author.Needs.{needs}
+use Rattle.line.proofs.line_section.Statement.{statement}
+use Rattle.line.proofs.line_section.Tie as tie
+use Rattle.line.proofs.line_section.Reads as reads
+use Rattle.line.proofs.line_section.Lts as lts
+use Rattle.line.proofs.cut_loops.Reads as cut-loops-reads
+use Rattle.section.proofs.stitch_faces.Reads as stitch-faces-reads
+
+stitch-faces-requires : tie.Need-stitch-faces-requires
+stitch-faces-requires c κs = search needs
+
+slice-reshare-prefix-cut-loops : tie.Need-slice-reshare-prefix-cut-loops
+slice-reshare-prefix-cut-loops c = nodes-there (c .before .before .before .before .before .before .before .before .before .before .before .before .before .stitch-faces .ensures)
+
+slice-aggregate-cut-loops : tie.Need-slice-aggregate-cut-loops
+slice-aggregate-cut-loops c = sym (length-take-le _ _ (nodes-there (c .before .before .before .before .before .before .before .before .before .before .before .before .before .before .stitch-faces .ensures)))
+
+slice-reshare-prefix-cut-loops-2 : tie.Need-slice-reshare-prefix-cut-loops-2
+slice-reshare-prefix-cut-loops-2 c = ends-there (c .before .before .before .before .before .before .before .before .before .before .before .before .before .before .stitch-faces .ensures)
+
+slice-aggregate-cut-loops-2 : tie.Need-slice-aggregate-cut-loops-2
+slice-aggregate-cut-loops-2 c = sym (length-take-le _ _ (ends-there (c .before .before .before .before .before .before .before .before .before .before .before .before .before .before .before .stitch-faces .ensures)))
+
+cut-loops-requires : tie.Need-cut-loops-requires
+cut-loops-requires c κs =
+    let s = c .before .before .before .before .before .before .before .before .before .before .before .before .before .before .before .before .before .before .before .before .before .before .before .before .before .before .before .before .before .before .before .before .before .before .before .before in
+    let one = c .before .before .before .before .before .before .before .before .before .before .before .before .before .before .before .before .before .before .before .stitch-faces in
+    loops-ready (frameOf (s .args .plane)) (s .args .tol) (s .pre .0) (s .pre .1) (s .pre .2) (one .ensures)
+    (one .kept .1 .1 .1 .1 .1 .1 .1 .1 .0) (one .kept .1 .1 .1 .1 .1 .0) (one .kept .1 .1 .1 .1 .1 .1 .0)
+
+same-length : tie.Need-same-length
+same-length c = search needs
+
+same-length-2 : tie.Need-same-length-2
+same-length-2 c = search needs
+
+same-length-3 : tie.Need-same-length-3
+same-length-3 c = search needs
+
+same-length-4 : tie.Need-same-length-4
+same-length-4 c = search needs
+
+same-length-5 : tie.Need-same-length-5
+same-length-5 c = search needs
+
+same-length-6 : tie.Need-same-length-6
+same-length-6 c = search needs
+
+same-length-7 : tie.Need-same-length-7
+same-length-7 c = search needs
+
+same-length-8 : tie.Need-same-length-8
+same-length-8 c = search needs
+
+returns : tie.Need-returns
+returns c =
+    let g = c .before .before .before .before .before .before .before .before .before .before .before .before .before .before .before .before .before .before .before .before .before .before .before .before .before .before .before .before .before .before .before .before .before .before .before .before .before .before .before .before .before .before .before .before .before .args in
+    rw (line-of (c .before .before .before .before .before .before .before .before .before .before .before .before .before .before .before .before .before .before .before .before .before .before .before .before .before .before .before .before .stitch-faces .ensures) (frameOf (g .plane)) (g .tol)) at (c .before .before .before .before .before .before .before .before .cut-loops .ensures)
+
+pub line-section-spec : {M : Type 1} → statement M
+line-section-spec =
+    tie.close
+    (tie.spec
+    stitch-faces-requires
+    slice-reshare-prefix-cut-loops
+    slice-aggregate-cut-loops
+    slice-reshare-prefix-cut-loops-2
+    slice-aggregate-cut-loops-2
+    cut-loops-requires
+    same-length
+    same-length-2
+    same-length-3
+    same-length-4
+    same-length-5
+    same-length-6
+    same-length-7
+    same-length-8
+    returns)

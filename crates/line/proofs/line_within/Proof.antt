@@ -1,0 +1,113 @@
+-- `line_within` meets its contract. Assumes nothing.
+use mathlib.Core.Path.{sym}
+use native.Mathlib.Omega.{arith}
+use lib.ListN.{length}
+use lib.Seq.{length-take-le}
+use Rattle.section.proofs.Reading.{faces-few, was-refused}
+use Rattle.line.proofs.Answers.{gave-refusal, gave-same}
+use Rattle.line.proofs.Reading.{line-ready, line-of-faces, line-refused, section-room}
+use borrow.Author.Needs.{needs}
+use Rattle.line.proofs.line_within.Statement.{statement}
+use Rattle.line.proofs.line_within.Tie as tie
+use Rattle.line.proofs.line_within.Reads as reads
+use Rattle.line.proofs.line_within.Lts as lts
+use Rattle.cell.proofs.read_space_cell.Reads as read-space-cell-reads
+use Rattle.line.proofs.line_faces.Reads as line-faces-reads
+
+read-space-cell-requires : tie.Need-read-space-cell-requires
+read-space-cell-requires c κs = search needs
+
+enum-known-k : tie.Need-enum-known-k
+enum-known-k c = search needs
+
+enum-known-corners : tie.Need-enum-known-corners
+enum-known-corners c = search needs
+
+slice-reshare-prefix-line-faces : tie.Need-slice-reshare-prefix-line-faces
+slice-reshare-prefix-line-faces c =
+    let g = c .before .before .before .before .before .before .before .before .before .before .before .before .before .before .before .before .before .before .before .before .before .before .before .args in
+    faces-few (g .t) (g .conn .now) (g .xs .now) (c .before .before .before .before .before .before .before .read-space-cell .ensures) (c .before .corners .given .1)
+
+slice-aggregate-line-faces : tie.Need-slice-aggregate-line-faces
+slice-aggregate-line-faces c =
+    let g = c .before .before .before .before .before .before .before .before .before .before .before .before .before .before .before .before .before .before .before .before .before .before .before .before .args in
+    sym (length-take-le _ _ (faces-few (g .t) (g .conn .now) (g .xs .now) (c .before .before .before .before .before .before .before .before .read-space-cell .ensures) (c .before .before .corners .given .1)))
+
+line-faces-requires : tie.Need-line-faces-requires
+line-faces-requires c κs =
+    let s = c .before .before .before .before .before .before .before .before .before .before .before .before .before .before .before .before .before .before .before .before .before .before .before .before .before .before .before .before .before .before .before .before in
+    let g = s .args in (
+      line-ready (g .t) (g .conn .now) (g .xs .now) (c .before .before .before .before .before .before .before .before .before .before .before .before .before .before .before .before .read-space-cell .ensures) (c .before .before .before .before .before .before .before .before .before .before .corners .given .1) (s .pre .0) (omega (arith, c .before .before .before .before .before .before .before .before .before .before .before .before .before .before .before .before .read-space-cell .kept .1 .1 .1 .0)),
+      section-room (g .t) (g .conn .now) (g .xs .now) (c .before .before .before .before .before .before .before .before .before .before .before .before .before .before .before .before .read-space-cell .ensures) (c .before .before .before .before .before .before .before .before .before .before .corners .given .1) (s .pre .1),
+    )
+
+same-length : tie.Need-same-length
+same-length c = search needs
+
+same-length-2 : tie.Need-same-length-2
+same-length-2 c = search needs
+
+returns : tie.Need-returns
+returns c =
+    let g = c .before .before .before .before .before .before .before .before .before .before .before .before .before .before .before .before .before .before .before .before .before .before .before .args in
+    gave-refusal _
+    (line-refused (g .t) (g .conn .now) (g .xs .now) (g .origin .now) (g .direction .now) (g .tol) (length (g .numbers .now))
+    (was-refused (c .before .before .before .before .before .before .before .read-space-cell .ensures) (c .before .k .given .1)))
+
+same-length-3 : tie.Need-same-length-3
+same-length-3 c = search needs
+
+same-length-4 : tie.Need-same-length-4
+same-length-4 c = search needs
+
+same-length-5 : tie.Need-same-length-5
+same-length-5 c = search needs
+
+same-length-6 : tie.Need-same-length-6
+same-length-6 c = search needs
+
+same-length-7 : tie.Need-same-length-7
+same-length-7 c = search needs
+
+same-length-8 : tie.Need-same-length-8
+same-length-8 c = search needs
+
+same-length-9 : tie.Need-same-length-9
+same-length-9 c = search needs
+
+same-length-10 : tie.Need-same-length-10
+same-length-10 c = search needs
+
+same-length-11 : tie.Need-same-length-11
+same-length-11 c = search needs
+
+returns-2 : tie.Need-returns-2
+returns-2 c =
+    let g = c .before .before .before .before .before .before .before .before .before .before .before .before .before .before .before .before .before .before .before .before .before .before .before .before .before .before .before .before .before .before .before .before .before .before .before .before .before .before .before .before .before .before .before .before .before .before .before .before .before .args in
+    gave-same
+    (line-of-faces (g .t) (g .conn .now) (g .xs .now) (c .before .before .before .before .before .before .before .before .before .before .before .before .before .before .before .before .before .before .before .before .before .before .before .before .before .before .before .before .before .before .before .before .before .read-space-cell .ensures) (c .before .before .before .before .before .before .before .before .before .before .before .before .before .before .before .before .before .before .before .before .before .before .before .before .before .before .before .corners .given .1) (g .origin .now) (g .direction .now) (g .tol) (length (g .numbers .now)))
+    (c .before .before .before .before .before .before .before .before .before .before .before .before .before .before .before .before .line-faces .ensures)
+
+pub line-within-spec : {M : Type 1} → statement M
+line-within-spec =
+    tie.close
+    (tie.spec
+    read-space-cell-requires
+    enum-known-k
+    enum-known-corners
+    slice-reshare-prefix-line-faces
+    slice-aggregate-line-faces
+    line-faces-requires
+    same-length
+    same-length-2
+    returns
+    same-length-3
+    same-length-4
+    same-length-5
+    same-length-6
+    same-length-7
+    same-length-8
+    same-length-9
+    same-length-10
+    same-length-11
+    returns-2)

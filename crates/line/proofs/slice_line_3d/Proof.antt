@@ -1,0 +1,39 @@
+-- `slice_line_3d` meets its contract. Assumes nothing.
+use mathlib.Core.Path.{ap}
+use lib.ListN.{length}
+use Rattle.section.specs.Entries.{lineCut}
+use Rattle.line.proofs.Answers.{gave-same}
+use borrow.Author.Needs.{needs}
+use Rattle.line.proofs.slice_line_3d.Statement.{statement}
+use Rattle.line.proofs.slice_line_3d.Tie as tie
+use Rattle.line.proofs.slice_line_3d.Reads as reads
+use Rattle.line.proofs.slice_line_3d.Lts as lts
+use Rattle.line.proofs.line_fixed.Reads as line-fixed-reads
+use Rattle.line.proofs.line_phed.Reads as line-phed-reads
+
+line-phed-requires : tie.Need-line-phed-requires
+line-phed-requires c κs = search needs
+
+same-length : tie.Need-same-length
+same-length c = search needs
+
+returns : tie.Need-returns
+returns c =
+    let g = c .before .before .before .before .before .before .before .before .before .before .args in
+    gave-same
+    (ap (λ t. lineCut t (g .conn .now) (g .xs .now) (g .origin .now) (g .direction .now) (g .tol) (length (g .numbers .now))) (c .before .before .before .before .if1 .taken))
+    (c .before .before .line-phed .ensures)
+
+line-fixed-requires : tie.Need-line-fixed-requires
+line-fixed-requires c κs = search needs
+
+same-length-2 : tie.Need-same-length-2
+same-length-2 c = search needs
+
+returns-2 : tie.Need-returns-2
+returns-2 c = search needs
+
+pub slice-line-3d-spec : {M : Type 1} → statement M
+slice-line-3d-spec =
+    tie.close
+    (tie.spec line-phed-requires same-length returns line-fixed-requires same-length-2 returns-2)

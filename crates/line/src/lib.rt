@@ -1,0 +1,660 @@
+// A cell cut by a line: in space, and in the plane by a normal or by a direction. The answer is segments only.
+ghost use mathlib.Core.Path.{_≡_};
+ghost use mathlib.Core.List.{_++_, map};
+ghost use Prim.Native.Nat.{_*_, _+_, _<_, _≤_};
+ghost use lib.ListN.{length};
+ghost use Rattle.vector.specs.Vector.{lineOf, normalAlong, unit};
+ghost use Rattle.vector.specs.View.{frameOf, unit2, vec2, vec3};
+ghost use Rattle.vector.specs.Rows.{rows, segs};
+ghost use Rattle.cell.specs.Read.{planeMost, spaceMost};
+ghost use Rattle.clip.specs.Cell.{atMost, facesOf};
+ghost use Rattle.clip.specs.Code.{Points, Segments};
+ghost use Rattle.clip.specs.View.{cut2};
+ghost use Rattle.stitch.specs.Code.{Below};
+ghost use Rattle.stitch.specs.Walk.{pointAt};
+ghost use Rattle.section.specs.Outcome.{GaveLine, andThen, found};
+ghost use Rattle.section.specs.Entries.{axis, byDirection, byNormal, frameIn, lineCut, lineOfSection, loopSegments};
+ghost use Rattle.section.specs.Entries.{normalIn, onLine, placedBy, sectionOf, segmentOnLine};
+ghost use Rattle.section.specs.Code.{Roomy};
+ghost use Rattle.line.specs.Code.{Lent, LentFor, Loop, Loops, cellCut, cutting, lineBy, lineIn, linePolygons, meaning};
+ghost use Rattle.line.specs.Code.{onLineOf, placing, segmentsIn};
+use cell::PlaneType;
+use cell::Reading;
+use cell::SpaceType;
+use clip::plane::Cut;
+use vector::Placed;
+use vector::Plane;
+use vector::Unit2;
+use vector::Vec2;
+use vector::Vec3;
+
+// The number of a refusal, or how many segments were written.
+pub enum Line {
+    Refused(u8),
+    Cut(usize),
+}
+
+// Cuts a single cell in space with the line through origin that has this direction: the segments, six numbers each.
+//
+// The cell is cut by a plane that contains the line, whose in-plane basis makes the line y = 0, and the loops of
+// that section are cut by it.
+pub fn slice_line_3d(
+    t: u8,
+    conn: &[u64],
+    xs: &[f64],
+    origin: &[f64],
+    direction: &[f64],
+    tol: f64,
+    numbers: &mut [f64],
+) -> Line
+    ensures { λ r. ⌜ GaveLine
+        (lineCut t (now (conn .entry)) (now (xs .entry)) (now (origin .entry)) (now (direction .entry)) tol
+        (length (now (numbers .entry))))
+        (meaning r) (now (numbers .entry)) (now (numbers .exit)) ⌝ }
+{
+    if t == SpaceType::PHED {
+        return line_phed(conn, xs, origin, direction, tol, numbers);
+    }
+    line_fixed(t, conn, xs, origin, direction, tol, numbers)
+}
+
+// The same for a polyhedron, whose faces can have 256 corners.
+fn line_phed(
+    conn: &[u64],
+    xs: &[f64],
+    origin: &[f64],
+    direction: &[f64],
+    tol: f64,
+    numbers: &mut [f64],
+) -> Line
+    ensures { λ r. ⌜ GaveLine
+        (lineCut 18 (now (conn .entry)) (now (xs .entry)) (now (origin .entry)) (now (direction .entry)) tol
+        (length (now (numbers .entry))))
+        (meaning r) (now (numbers .entry)) (now (numbers .exit)) ⌝ }
+{
+    let mut coords = [0.0f64; 768];
+    let mut stops = [0usize; 85];
+    let mut points = [0.0f64; 1152];
+    let mut space = [0.0f64; 2304];
+    let mut segments = [0.0f64; 1536];
+    let mut welded = [0.0f64; 1536];
+    let mut nodes = [0u32; 384];
+    let mut ends = [0u32; 128];
+    line_within(
+        SpaceType::PHED,
+        conn,
+        xs,
+        origin,
+        direction,
+        tol,
+        numbers,
+        &mut coords,
+        &mut stops,
+        &mut points,
+        &mut space,
+        &mut segments,
+        &mut welded,
+        &mut nodes,
+        &mut ends,
+    )
+}
+
+// The same for every other type: at most 24 face corners.
+fn line_fixed(
+    t: u8,
+    conn: &[u64],
+    xs: &[f64],
+    origin: &[f64],
+    direction: &[f64],
+    tol: f64,
+    numbers: &mut [f64],
+) -> Line
+    requires { ⌜ (t ≡ 18 → ⊥) ⌝ }
+    ensures { λ r. ⌜ GaveLine
+        (lineCut t (now (conn .entry)) (now (xs .entry)) (now (origin .entry)) (now (direction .entry)) tol
+        (length (now (numbers .entry))))
+        (meaning r) (now (numbers .entry)) (now (numbers .exit)) ⌝ }
+{
+    let mut coords = [0.0f64; 72];
+    let mut stops = [0usize; 6];
+    let mut points = [0.0f64; 108];
+    let mut space = [0.0f64; 216];
+    let mut segments = [0.0f64; 144];
+    let mut welded = [0.0f64; 144];
+    let mut nodes = [0u32; 36];
+    let mut ends = [0u32; 12];
+    line_within(
+        t,
+        conn,
+        xs,
+        origin,
+        direction,
+        tol,
+        numbers,
+        &mut coords,
+        &mut stops,
+        &mut points,
+        &mut space,
+        &mut segments,
+        &mut welded,
+        &mut nodes,
+        &mut ends,
+    )
+}
+
+// Refusals 1 to 4, then the cut; the scratch slices are large enough for the type.
+fn line_within(
+    t: u8,
+    conn: &[u64],
+    xs: &[f64],
+    origin: &[f64],
+    direction: &[f64],
+    tol: f64,
+    numbers: &mut [f64],
+    coords: &mut [f64],
+    stops: &mut [usize],
+    points: &mut [f64],
+    space: &mut [f64],
+    segments: &mut [f64],
+    welded: &mut [f64],
+    nodes: &mut [u32],
+    ends: &mut [u32],
+) -> Line
+    requires { ⌜ LentFor t (now stops) (now coords) (now points) (now space) (now segments)
+        × Roomy (spaceMost t) (now welded) (now nodes) (now ends) ⌝ }
+    ensures { λ r. ⌜ GaveLine
+        (lineCut t (now (conn .entry)) (now (xs .entry)) (now (origin .entry)) (now (direction .entry)) tol
+        (length (now (numbers .entry))))
+        (meaning r) (now (numbers .entry)) (now (numbers .exit)) ⌝ }
+{
+    match cell::read_space_cell(t, conn, xs, coords, stops) {
+        Reading::Refused(k) => Line::Refused(k),
+        Reading::Cell { corners, faces } => line_faces(
+            origin,
+            direction,
+            tol,
+            corners,
+            &stops[..faces],
+            numbers,
+            coords,
+            points,
+            space,
+            segments,
+            welded,
+            nodes,
+            ends,
+        ),
+    }
+}
+
+// Refusals 5 and 6, then the cut of faces with m corners, whose coordinates stand in a row.
+fn line_faces(
+    origin: &[f64],
+    direction: &[f64],
+    tol: f64,
+    m: usize,
+    stops: &[usize],
+    numbers: &mut [f64],
+    coords: &mut [f64],
+    points: &mut [f64],
+    space: &mut [f64],
+    segments: &mut [f64],
+    welded: &mut [f64],
+    nodes: &mut [u32],
+    ends: &mut [u32],
+) -> Line
+    requires { ⌜ Lent m (now stops) (now coords) (now points) (now space) (now segments)
+        × Roomy m (now welded) (now nodes) (now ends) ⌝ }
+    ensures { λ r. ⌜ GaveLine
+        (linePolygons (now (origin .entry)) (now (direction .entry)) tol m (length (now (numbers .entry)))
+        (facesOf 3 (now (stops .entry)) (now (coords .entry))))
+        (meaning r) (now (numbers .entry)) (now (numbers .exit)) ⌝ }
+{
+    match place(origin, direction) {
+        Placing::Refused(k) => Line::Refused(k),
+        Placing::On(plane) => line_on(
+            plane,
+            tol,
+            m,
+            stops,
+            numbers,
+            coords,
+            points,
+            space,
+            segments,
+            welded,
+            nodes,
+            ends,
+        ),
+    }
+}
+
+// Refusal 7, then the cut by the line u of a plane.
+fn line_on(
+    plane: Plane,
+    tol: f64,
+    m: usize,
+    stops: &[usize],
+    numbers: &mut [f64],
+    coords: &mut [f64],
+    points: &mut [f64],
+    space: &mut [f64],
+    segments: &mut [f64],
+    welded: &mut [f64],
+    nodes: &mut [u32],
+    ends: &mut [u32],
+) -> Line
+    requires { ⌜ Lent m (now stops) (now coords) (now points) (now space) (now segments)
+        × Roomy m (now welded) (now nodes) (now ends) ⌝ }
+    ensures { λ r. ⌜ GaveLine
+        (lineIn tol m (length (now (numbers .entry))) (facesOf 3 (now (stops .entry)) (now (coords .entry)))
+        (frameOf plane))
+        (meaning r) (now (numbers .entry)) (now (numbers .exit)) ⌝ }
+{
+    if 14 * m > numbers.len() {
+        return Line::Refused(7);
+    }
+    Line::Cut(line_section(
+        plane,
+        tol,
+        m,
+        stops,
+        numbers,
+        coords,
+        points,
+        space,
+        segments,
+        welded,
+        nodes,
+        ends,
+    ))
+}
+
+// The section of faces with m corners by a plane, and each of its loops cut by y = 0. What was lent for the corners,
+// the clipped points and the segments of faces serves the loops afterwards.
+fn line_section(
+    plane: Plane,
+    tol: f64,
+    m: usize,
+    stops: &[usize],
+    numbers: &mut [f64],
+    coords: &mut [f64],
+    points: &mut [f64],
+    space: &mut [f64],
+    segments: &mut [f64],
+    welded: &mut [f64],
+    nodes: &mut [u32],
+    ends: &mut [u32],
+) -> usize
+    requires { ⌜ Lent m (now stops) (now coords) (now points) (now space) (now segments)
+        × Roomy m (now welded) (now nodes) (now ends) × (14 * m ≤ length (now numbers)) ⌝ }
+    ensures { λ r. ⌜ Segments 3 (now (numbers .entry))
+        (lineOfSection (frameOf plane) tol
+        (sectionOf (frameOf plane) tol (facesOf 3 (now (stops .entry)) (now (coords .entry)))))
+        r (now (numbers .exit)) ⌝ }
+{
+    let s = section::stitch_faces(
+        plane,
+        tol,
+        m,
+        coords,
+        stops,
+        points,
+        space,
+        segments,
+        welded,
+        nodes,
+        ends,
+    );
+    let n = s.nodes;
+    let f = s.loops;
+    cut_loops(
+        plane,
+        tol,
+        welded,
+        s.points,
+        &nodes[..n],
+        &ends[..f],
+        coords,
+        points,
+        space,
+        numbers,
+    )
+}
+
+// Cuts each loop by y = 0 and writes the segments on the line. Gives how many there are.
+fn cut_loops(
+    plane: Plane,
+    tol: f64,
+    points: &[f64],
+    p: usize,
+    nodes: &[u32],
+    ends: &[u32],
+    polygon: &mut [f64],
+    clipped: &mut [f64],
+    flat: &mut [f64],
+    numbers: &mut [f64],
+) -> usize
+    requires { ⌜ Loops p (now points) (now nodes) (now ends) (now polygon) (now clipped) (now flat) (now numbers) ⌝ }
+    ensures { λ r. ⌜ Segments 3 (now (numbers .entry))
+        (onLineOf (frameOf plane) tol (rows 2 p (now (points .entry))) (now (ends .entry)) (now (nodes .entry)))
+        r (now (numbers .exit)) ⌝ }
+{
+    let mut k = 0;
+    let mut s = 0;
+    let mut i = 0;
+    while i < ends.len() {
+        let e = wide(ends[i]);
+        k = cut_loop(
+            plane,
+            tol,
+            points,
+            p,
+            &nodes[s..e],
+            polygon,
+            clipped,
+            flat,
+            numbers,
+            k,
+        );
+        s = e;
+        i += 1;
+    }
+    k
+}
+
+// Cuts one loop by y = 0: its segments on the line, after the `from` in numbers. Gives how many there are then.
+fn cut_loop(
+    plane: Plane,
+    tol: f64,
+    points: &[f64],
+    p: usize,
+    nodes: &[u32],
+    polygon: &mut [f64],
+    clipped: &mut [f64],
+    flat: &mut [f64],
+    numbers: &mut [f64],
+    from: usize,
+) -> usize
+    requires { ⌜ Loop p (now points) (now nodes) (now polygon) (now clipped) (now flat)
+        × (6 * (from + atMost (length (now nodes))) ≤ length (now numbers)) ⌝ }
+    ensures { λ r. ⌜ Segments 3 (now (numbers .entry))
+        (segs 3 from (now (numbers .entry))
+        ++ map (segmentOnLine (frameOf plane))
+        (loopSegments tol (rows 2 p (now (points .entry))) (now (nodes .entry))))
+        r (now (numbers .exit)) ⌝ }
+{
+    loop_points(points, p, nodes, polygon);
+    let k = clip::plane::plane_section_segments(polygon, nodes.len(), axis(tol), clipped, flat);
+    put_on_line(flat, k, plane, numbers, from)
+}
+
+// The line y = 0 with a tolerance.
+fn axis(tol: f64) -> Cut
+    ensures { λ r. ⌜ cut2 r ≡ axis tol ⌝ }
+{
+    Cut {
+        origin: Vec2 { x: 0.0, y: 0.0 },
+        normal: Vec2 { x: 0.0, y: 1.0 },
+        tol: tol,
+    }
+}
+
+// The points of a loop, one after the other, written to out.
+fn loop_points(points: &[f64], p: usize, nodes: &[u32], out: &mut [f64])
+    requires { ⌜ (2 * p ≤ length (now points)) × Below p (now nodes) × (2 * length (now nodes) ≤ length (now out)) ⌝ }
+    ensures { λ _. ⌜ Points 2 (now (out .entry)) (map (pointAt (rows 2 p (now (points .entry)))) (now (nodes .entry)))
+        (length (now (nodes .entry))) (now (out .exit)) ⌝ }
+{
+    let mut i = 0;
+    while i < nodes.len() {
+        let k = wide(nodes[i]);
+        vector::put2(out, i, vector::point2(points, k));
+        i += 1;
+    }
+}
+
+// Writes k segments as points of the line, after the `from` in out. Gives how many there are then.
+fn put_on_line(flat: &[f64], k: usize, plane: Plane, out: &mut [f64], from: usize) -> usize
+    requires { ⌜ (4 * k ≤ length (now flat)) × (6 * (from + k) ≤ length (now out)) ⌝ }
+    ensures { λ r. ⌜ Segments 3 (now (out .entry))
+        (segs 3 from (now (out .entry)) ++ map (segmentOnLine (frameOf plane)) (segs 2 k (now (flat .entry))))
+        r (now (out .exit)) ⌝ }
+{
+    let mut i = 0;
+    while i < k {
+        let j = 2 * (from + i);
+        vector::put3(out, j, on_line(plane, vector::point2(flat, 2 * i)));
+        vector::put3(out, j + 1, on_line(plane, vector::point2(flat, 2 * i + 1)));
+        i += 1;
+    }
+    from + k
+}
+
+// The point of the line with the coordinate a.x along it.
+fn on_line(plane: Plane, a: Vec2) -> Vec3
+    ensures { λ r. ⌜ vec3 r ≡ onLine (frameOf plane) (vec2 a) ⌝ }
+{
+    let o = plane.origin;
+    let u = plane.u;
+    o.plus(u.scaled(a.x))
+}
+
+// The number of a refusal, or the plane that holds the line.
+enum Placing {
+    Refused(u8),
+    On(Plane),
+}
+
+// The plane that holds the line through origin with this direction, or refusal 5 or 6.
+fn place(origin: &[f64], direction: &[f64]) -> Placing
+    ensures { λ r. ⌜ placing r ≡ placedBy 3 (now (origin .entry)) (now (direction .entry))
+        (frameIn (lineOf (now (origin .entry)) (now (direction .entry)))) ⌝ }
+{
+    if origin.len() != 3 {
+        return Placing::Refused(5);
+    }
+    if direction.len() != 3 {
+        return Placing::Refused(5);
+    }
+    match Plane::of_line(vector::point3(origin, 0), vector::point3(direction, 0)) {
+        Placed::On(p) => Placing::On(p),
+        Placed::Nowhere => Placing::Refused(6),
+    }
+}
+
+// A node number as an index.
+fn wide(x: u32) -> usize
+    ensures { λ r. ⌜ r ≡ x ⌝ }
+{
+    x as usize
+}
+
+// Cuts a single cell in the plane with the line through origin that has this normal: the segments, four numbers
+// each.
+pub fn slice_2d(
+    t: u8,
+    conn: &[u64],
+    xs: &[f64],
+    origin: &[f64],
+    normal: &[f64],
+    tol: f64,
+    numbers: &mut [f64],
+) -> Line
+    ensures { λ r. ⌜ GaveLine
+        (byNormal t (now (conn .entry)) (now (xs .entry)) (now (origin .entry)) (now (normal .entry)) tol
+        (length (now (numbers .entry))))
+        (meaning r) (now (numbers .entry)) (now (numbers .exit)) ⌝ }
+{
+    cut_cell(t, conn, xs, by_normal(origin, normal, tol), numbers)
+}
+
+// The same with the line through origin that has this direction.
+pub fn slice_line(
+    t: u8,
+    conn: &[u64],
+    xs: &[f64],
+    origin: &[f64],
+    direction: &[f64],
+    tol: f64,
+    numbers: &mut [f64],
+) -> Line
+    ensures { λ r. ⌜ GaveLine
+        (byDirection t (now (conn .entry)) (now (xs .entry)) (now (origin .entry)) (now (direction .entry)) tol
+        (length (now (numbers .entry))))
+        (meaning r) (now (numbers .entry)) (now (numbers .exit)) ⌝ }
+{
+    cut_cell(t, conn, xs, by_direction(origin, direction, tol), numbers)
+}
+
+// The number of a refusal, or the line that cuts.
+enum Cutting {
+    Refused(u8),
+    By(Cut),
+}
+
+// The line through origin with this normal, or refusal 5 or 6.
+fn by_normal(origin: &[f64], normal: &[f64], tol: f64) -> Cutting
+    ensures { λ r. ⌜ cutting r ≡ lineBy unit (now (origin .entry)) (now (normal .entry)) tol ⌝ }
+{
+    if origin.len() != 2 {
+        return Cutting::Refused(5);
+    }
+    if normal.len() != 2 {
+        return Cutting::Refused(5);
+    }
+    with_normal(
+        vector::point2(origin, 0),
+        vector::point2(normal, 0).unit(),
+        tol,
+    )
+}
+
+// The line through origin with this direction, or refusal 5 or 6.
+fn by_direction(origin: &[f64], direction: &[f64], tol: f64) -> Cutting
+    ensures { λ r. ⌜ cutting r ≡ lineBy normalAlong (now (origin .entry)) (now (direction .entry)) tol ⌝ }
+{
+    if origin.len() != 2 {
+        return Cutting::Refused(5);
+    }
+    if direction.len() != 2 {
+        return Cutting::Refused(5);
+    }
+    with_normal(
+        vector::point2(origin, 0),
+        vector::point2(direction, 0).normal_along(),
+        tol,
+    )
+}
+
+// The line through origin with the unit normal that was found, or refusal 6.
+fn with_normal(origin: Vec2, normal: Unit2, tol: f64) -> Cutting
+    ensures { λ r. ⌜ cutting r ≡ andThen (normalIn (unit2 normal))
+        (λ u. found (record { origin = vec2 origin; normal = u; tol = tol })) ⌝ }
+{
+    match normal {
+        Unit2::Along(n) => Cutting::By(Cut {
+            origin: origin,
+            normal: n,
+            tol: tol,
+        }),
+        Unit2::Nowhere => Cutting::Refused(6),
+    }
+}
+
+// Cuts a single cell in the plane with a line that is placed already.
+fn cut_cell(t: u8, conn: &[u64], xs: &[f64], by: Cutting, numbers: &mut [f64]) -> Line
+    ensures { λ r. ⌜ GaveLine
+        (cellCut (cutting by) t (now (conn .entry)) (now (xs .entry)) (length (now (numbers .entry))))
+        (meaning r) (now (numbers .entry)) (now (numbers .exit)) ⌝ }
+{
+    if t == PlaneType::PGON {
+        return cut_pgon(conn, xs, by, numbers);
+    }
+    cut_fixed(t, conn, xs, by, numbers)
+}
+
+// The same for a polygon, which can have 256 corners.
+fn cut_pgon(conn: &[u64], xs: &[f64], by: Cutting, numbers: &mut [f64]) -> Line
+    ensures { λ r. ⌜ GaveLine
+        (cellCut (cutting by) 11 (now (conn .entry)) (now (xs .entry)) (length (now (numbers .entry))))
+        (meaning r) (now (numbers .entry)) (now (numbers .exit)) ⌝ }
+{
+    let mut coords = [0.0f64; 512];
+    let mut points = [0.0f64; 768];
+    cut_within(
+        PlaneType::PGON,
+        conn,
+        xs,
+        by,
+        &mut coords,
+        &mut points,
+        numbers,
+    )
+}
+
+// The same for every other type: at most four corners.
+fn cut_fixed(t: u8, conn: &[u64], xs: &[f64], by: Cutting, numbers: &mut [f64]) -> Line
+    requires { ⌜ (t ≡ 11 → ⊥) ⌝ }
+    ensures { λ r. ⌜ GaveLine
+        (cellCut (cutting by) t (now (conn .entry)) (now (xs .entry)) (length (now (numbers .entry))))
+        (meaning r) (now (numbers .entry)) (now (numbers .exit)) ⌝ }
+{
+    let mut coords = [0.0f64; 8];
+    let mut points = [0.0f64; 12];
+    cut_within(t, conn, xs, by, &mut coords, &mut points, numbers)
+}
+
+// Refusals 1 to 4, then the cut; the scratch slices are large enough for the type.
+fn cut_within(
+    t: u8,
+    conn: &[u64],
+    xs: &[f64],
+    by: Cutting,
+    coords: &mut [f64],
+    points: &mut [f64],
+    numbers: &mut [f64],
+) -> Line
+    requires { ⌜ (2 * planeMost t ≤ length (now coords)) × (2 * atMost (planeMost t) ≤ length (now points)) ⌝ }
+    ensures { λ r. ⌜ GaveLine
+        (cellCut (cutting by) t (now (conn .entry)) (now (xs .entry)) (length (now (numbers .entry))))
+        (meaning r) (now (numbers .entry)) (now (numbers .exit)) ⌝ }
+{
+    match cell::read_plane_cell(t, conn, xs, coords) {
+        Reading::Refused(k) => Line::Refused(k),
+        Reading::Cell { corners, faces } => cut_polygon(by, corners, coords, points, numbers),
+    }
+}
+
+// Refusals 5 and 6, then the cut of a polygon of n corners.
+fn cut_polygon(
+    by: Cutting,
+    n: usize,
+    coords: &[f64],
+    points: &mut [f64],
+    numbers: &mut [f64],
+) -> Line
+    requires { ⌜ (n ≤ 256) × (2 * n ≤ length (now coords)) × (2 * atMost n ≤ length (now points)) ⌝ }
+    ensures { λ r. ⌜ GaveLine
+        (andThen (cutting by)
+        (segmentsIn n (length (now (numbers .entry))) (rows 2 n (now (coords .entry)))))
+        (meaning r) (now (numbers .entry)) (now (numbers .exit)) ⌝ }
+{
+    match by {
+        Cutting::Refused(k) => Line::Refused(k),
+        Cutting::By(cut) => cut_by(cut, n, coords, points, numbers),
+    }
+}
+
+// Refusal 7, then the cut by a line.
+fn cut_by(cut: Cut, n: usize, coords: &[f64], points: &mut [f64], numbers: &mut [f64]) -> Line
+    requires { ⌜ (n ≤ 256) × (2 * n ≤ length (now coords)) × (2 * atMost n ≤ length (now points)) ⌝ }
+    ensures { λ r. ⌜ GaveLine
+        (segmentsIn n (length (now (numbers .entry))) (rows 2 n (now (coords .entry))) (cut2 cut))
+        (meaning r) (now (numbers .entry)) (now (numbers .exit)) ⌝ }
+{
+    if 6 * n > numbers.len() {
+        return Line::Refused(7);
+    }
+    Line::Cut(clip::plane::plane_section_segments(coords, n, cut, points, numbers))
+}
