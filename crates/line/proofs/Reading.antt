@@ -84,7 +84,7 @@ fixed-lent {t} h y =
 
 -- ---- a cell in the plane
 
-most-256 : (t : ℕ) → planeMost t ≤ 256
+pub most-256 : (t : ℕ) → planeMost t ≤ 256
 most-256 t = either (eqb t 11)
   where
     either : (b : Bool) → cond b 256 4 ≤ 256
