@@ -12,6 +12,8 @@ pub mod segments;
 pub mod stitching;
 #[cfg(feature = "mefikit")]
 pub mod vectors;
+#[cfg(feature = "mefikit")]
+pub mod walks;
 
 pub use proved::sqrt;
 
