@@ -1,7 +1,7 @@
 /* Cicelybeam: one cell of a finite-element mesh, cut by a plane or a line, and the mesh tolerance.
  *
- * Link with target/staticlib/libcicelybeam.a (made by `rt staticlib cicelybeam`); nothing else is
- * needed. Every function is proved to return, to read only what it is lent and to write only what its
+ * Link with target/staticlib/libcicelybeam.a (made by `rt staticlib cicelybeam`), which needs memcpy and
+ * memset of the C library and nothing else. Every function is proved to return, to read only what it is lent and to write only what its
  * answer says, for any numbers at all, NaN and infinities included. None allocates, and none keeps
  * anything from call to call, so any threads may call at once.
  *
@@ -94,11 +94,12 @@ extern "C" {
  * Written: 2 * points to numbers, x and y of each point; nodes to nodes, the points of loop after loop,
  * counted from 0; loops to ends, the number of nodes up to and with each loop. Loop k has the nodes from
  * ends[k - 1] (0 for the first) up to but not with ends[k], at least three of them, counter-clockwise in
- * the plane's coordinates: its area is above 0.
+ * the plane's coordinates, by its rounded area.
  *
- * listed = in_loops + flat + open, always. Edges are counted as flat where they close without an area
- * (at most the squared tolerance), as open where they do not close. Nothing else is left out: the
- * section is whole where both are 0. */
+ * listed = in_loops + flat + open, always. Listed edges that close without an area above the squared
+ * tolerance are counted as flat, those that do not close as open; neither is drawn. So every listed edge
+ * is drawn exactly where both are 0. A segment whose ends are one point within the tolerance is no edge,
+ * one that repeats an edge adds none, and a corner at a distance of NaN counts as outside. */
 struct cicelybeam_section {
   uint32_t refusal;
   uint32_t points;
@@ -125,7 +126,9 @@ struct cicelybeam_tolerance {
 /* ---- Functions
  * type, conn and coords are the cell: its type's number, its node numbers, and the coordinates of the
  * whole mesh in rows. tol is the distance up to which a point counts as on the plane, and two points
- * as one; usually the mesh's tolerance (below). Any number is taken. Vectors need not be of length 1. */
+ * as one; usually the mesh's tolerance (below). Any number is taken; with less than the mesh's own, a
+ * crossing that was rounded may not count as on the plane, and its edge is then not found. Vectors need
+ * not be of length 1. */
 
 /* A space cell cut by the plane through origin with this normal. Points are given in the plane, from
  * origin. Refuses 1 to 7. */
