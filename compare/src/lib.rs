@@ -1,5 +1,13 @@
 //! Cicelybeam's proved functions as Rust sees them, and what the comparisons share.
 
+#[cfg(feature = "mefikit")]
+pub mod answers;
+pub mod cells;
+#[cfg(feature = "mefikit")]
+pub mod cuts;
+#[cfg(feature = "mefikit")]
+pub mod cutting;
+pub mod entries;
 pub mod faces;
 pub mod lists;
 pub mod numbers;
