@@ -13,6 +13,25 @@ pub enum Entry {
 }
 
 impl Entry {
+    pub const ALL: [Entry; 7] = [
+        Entry::Plane,
+        Entry::LineInSpace,
+        Entry::PlaneCellByNormal,
+        Entry::PlaneCellByDirection,
+        Entry::Stitch,
+        Entry::ToleranceInSpace,
+        Entry::ToleranceInPlane,
+    ];
+
+    /// The numbers that a point or segment of the answer has.
+    pub fn numbers_each(self) -> usize {
+        match self {
+            Entry::LineInSpace => 6,
+            Entry::PlaneCellByNormal | Entry::PlaneCellByDirection => 4,
+            _ => 2,
+        }
+    }
+
     /// The coordinates of a row.
     pub fn width(self) -> usize {
         match self {

@@ -13,6 +13,8 @@ pub mod lists;
 pub mod numbers;
 pub mod proved;
 pub mod random;
+#[cfg(feature = "mefikit")]
+pub mod recorded;
 pub mod roots;
 #[cfg(feature = "mefikit")]
 pub mod segments;
@@ -22,6 +24,8 @@ pub mod stitching;
 pub mod vectors;
 #[cfg(feature = "mefikit")]
 pub mod walks;
+#[cfg(feature = "mefikit")]
+pub mod worked;
 
 pub use proved::sqrt;
 

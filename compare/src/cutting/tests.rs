@@ -2,15 +2,7 @@ use super::*;
 use crate::answers::room;
 use crate::entries::ours;
 
-const ENTRIES: [Entry; 7] = [
-    Entry::Plane,
-    Entry::LineInSpace,
-    Entry::PlaneCellByNormal,
-    Entry::PlaneCellByDirection,
-    Entry::Stitch,
-    Entry::ToleranceInSpace,
-    Entry::ToleranceInPlane,
-];
+const ENTRIES: [Entry; 7] = Entry::ALL;
 const CUTS: [Entry; 5] = [
     Entry::Plane,
     Entry::LineInSpace,
