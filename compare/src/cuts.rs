@@ -39,6 +39,16 @@ pub fn any_case(random: &mut Random, entry: Entry) -> Case {
         let wrong = random.pick(refusals(entry));
         spoil(random, &mut case, wrong);
     }
+    // so that valgrind sees what is read beyond a list
+    case.conn.shrink_to_fit();
+    for list in [
+        &mut case.coords,
+        &mut case.origin,
+        &mut case.vector,
+        &mut case.segments,
+    ] {
+        list.shrink_to_fit();
+    }
     case
 }
 

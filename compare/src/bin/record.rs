@@ -23,7 +23,7 @@ const SHARES: [(Entry, usize); 7] = [
     (Entry::ToleranceInPlane, 100),
 ];
 
-/// The most words of a random case, and of one with two things wrong. Worked cases have up to 1,563.
+/// The most words of a random case, and of one with two things wrong. Worked cases have up to 2,326.
 const MOST_WORDS: usize = 200;
 const MOST_WORDS_REFUSED: usize = 400;
 
