@@ -135,7 +135,7 @@ fn plane(case: &Case, build: Build) -> Result<Answer, u32> {
 
 fn stitch(case: &Case, build: Build) -> Result<Answer, u32> {
     let numbers = &case.segments;
-    if numbers.len() % 4 != 0 || numbers.len() / 4 > MOST_SEGMENTS {
+    if !numbers.len().is_multiple_of(4) || numbers.len() / 4 > MOST_SEGMENTS {
         return Err(8);
     }
     with_room(case)?;

@@ -229,7 +229,7 @@ fn one_face(random: &mut Random) -> (Vec<[f64; 3]>, Vec<Vec<u64>>) {
     let in_turn = random.one_in(2);
     let corner = |k: usize| {
         let [x, y, z] = point(random, ordinary);
-        let side = if k % 2 == 0 { 1.0 } else { -1.0 };
+        let side = if k.is_multiple_of(2) { 1.0 } else { -1.0 };
         [x, y, if in_turn { side * (z.abs() + 0.01) } else { z }]
     };
     ((0..n).map(corner).collect(), vec![(0..n as u64).collect()])

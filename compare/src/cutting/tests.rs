@@ -1,6 +1,7 @@
 use super::*;
 use crate::answers::room;
 use crate::entries::ours;
+use crate::worked::worked;
 
 const ENTRIES: [Entry; 7] = Entry::ALL;
 const CUTS: [Entry; 5] = [
@@ -48,6 +49,23 @@ fn the_linked_entries_are_the_rusts() {
         assert_eq!(found.differing, 0, "{:?}", found.first);
         let found = compare_refusals(entry, 1, ours);
         assert_eq!(found.differing, 0, "{:?}", found.first);
+    }
+}
+
+/// In exact buffers, and with each buffer that has a length too short by one.
+#[test]
+fn the_worked_cases_are_the_rusts() {
+    let mut buffers = Buffers::default();
+    for (number, case) in worked() {
+        for short in 0..4 {
+            let mut case = case.clone();
+            if let Some(lent) = case.lent.get_mut(short) {
+                *lent = lent.saturating_sub(1);
+            }
+            if let Err(why) = judge(&case, ours, &mut buffers) {
+                panic!("case {number}: {why}");
+            }
+        }
     }
 }
 
@@ -224,7 +242,7 @@ fn another_order_of_refusals_is_seen() {
         let rows = (case.coords.len() / width) as u64;
         match told {
             1 => case.conn.len() > 256,
-            2 => case.coords.len() % width != 0,
+            2 => !case.coords.len().is_multiple_of(width),
             3 => kept_corners(case).iter().any(|&at| case.conn[at] >= rows),
             4 => case.origin.len() != width || case.vector.len() != width,
             5 => case.vector.iter().all(|x| x * x == 0.0 || x.is_nan()),
