@@ -11,11 +11,11 @@ use Rattle.vector.specs.Number.{f1, minusOne, abs}
 use Rattle.vector.specs.Vector.{Vector, dist2}
 use Rattle.vector.specs.Rows.{Seg, seg}
 use Rattle.clip.specs.declared.Side.{Side}
-use Rattle.clip.specs.declared.Side.the-variants.{Above, Below, Neither}
-use Rattle.clip.specs.Clip.{Cut, anyAbove, anyBelow, away, bySide, clipSides, clipped, duplicate, edges, edgesTo, inside, keptSide}
-use Rattle.clip.specs.Clip.{liesOn, planeSectionSegments, pushAll, pushSegment, pushSegments, pushUnique, sectionOn, segments, signed}
+use Rattle.clip.specs.declared.Side.the-variants.{Above, Below}
+use Rattle.clip.specs.Clip.{Cut, anyAbove, anyBelow, away, bySide, clipSides, clipped, edges, edgesTo, keptSide}
+use Rattle.clip.specs.Clip.{planeSectionSegments, pushAll, pushSegment, pushSegments, pushUnique, segments}
 use Rattle.clip.specs.Clip.{tol2, unique, withoutClosing}
-use Rattle.clip.specs.Clear.{Clear, ClearAbove, ClearBelow, ClearFace, ClearSide, Each, Higher, LeftOut, Lower}
+use Rattle.clip.specs.Clear.{Clear, ClearAbove, ClearBelow, ClearFace, ClearSide, Each, LeftOut}
 use Rattle.clip.proofs.Signs.{above-inside, above-off, below-inside, below-not-above, below-off}
 
 -- ---- each point of a list

@@ -18,9 +18,9 @@ use Rattle.vector.specs.Rows.{row, rows}
 use Rattle.vector.proofs.Rows.{rows-getD, rows-length}
 use Rattle.clip.specs.declared.Side.{Side}
 use Rattle.clip.specs.declared.Side.the-variants.{Above, Below, Neither}
-use Rattle.clip.specs.Clip.{Cut, anyAbove, anyBelow, away, bySide, keptSide, planeSectionSegments}
+use Rattle.clip.specs.Clip.{Cut, anyAbove, anyBelow, away, bySide, planeSectionSegments}
 use Rattle.clip.specs.Clear.{Each}
-use Rattle.clip.specs.Code.{Distances, Sided, sideOf}
+use Rattle.clip.specs.Code.{Sided, sideOf}
 use Rattle.clip.proofs.Clear.{left-out}
 
 -- ---- how many points pass a test

@@ -14,7 +14,8 @@ pub mod space;
 
 use vector::absolute;
 
-// The side of the cut that a polygon is clipped to; neither, if no corner is above tol or below -tol.
+// The side of the cut that a polygon is clipped to; neither, if no corner is above tol or below -tol, or if all are on
+// one side.
 pub enum Side {
     Above,
     Below,

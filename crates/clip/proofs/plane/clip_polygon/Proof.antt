@@ -3,7 +3,6 @@
 use mathlib.Core.Path.{ap, sym, _∙_}
 use Prim.Native.Nat.{_-_}
 use native.Mathlib.Omega.{arith}
-use lib.ListN.{length}
 use borrow.Author.Needs.{needs}
 use Rattle.vector.specs.View.{vec2}
 use Rattle.clip.proofs.Ring.{next-below}

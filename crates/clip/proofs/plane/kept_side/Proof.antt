@@ -3,7 +3,6 @@
 use mathlib.Core.Path.{refl}
 use Prim.Native.Nat.{_-_}
 use native.Mathlib.Omega.{arith}
-use lib.ListN.{length}
 use borrow.Author.Needs.{needs}
 use Rattle.clip.proofs.KeptSide.{Looking, looking-end, looking-start, looking-step}
 use Rattle.clip.specs.View.{cut2}
