@@ -12,6 +12,8 @@ mod linked {
             placed: *const f64,
             placed_len: usize,
             tol: f64,
+            points: *mut f64,
+            points_len: usize,
             out: *mut f64,
             out_len: usize,
         ) -> usize;
@@ -21,6 +23,8 @@ mod linked {
             placed: *const f64,
             placed_len: usize,
             tol: f64,
+            points: *mut f64,
+            points_len: usize,
             out: *mut f64,
             out_len: usize,
         ) -> usize;
@@ -74,9 +78,9 @@ pub fn sqrt(x: f64) -> f64 {
 /// The segments of a polygon, written to `out`; how many there are, or [`REFUSED`]. The width is 2 or 3.
 pub fn segments<const D: usize>(
     polygon: &[[f64; D]],
-    origin: &[f64; D],
-    normal: &[f64; D],
+    placed: &[[f64; D]; 2],
     tol: f64,
+    points: &mut [f64],
     out: &mut [f64],
 ) -> usize {
     let clip = match D {
@@ -84,8 +88,7 @@ pub fn segments<const D: usize>(
         3 => linked::trial_space_segments,
         _ => panic!("no width {D}"),
     };
-    let (polygon, placed) = (polygon.as_flattened(), [*origin, *normal]);
-    let placed = placed.as_flattened();
+    let (polygon, placed) = (polygon.as_flattened(), placed.as_flattened());
     unsafe {
         clip(
             polygon.as_ptr(),
@@ -93,6 +96,8 @@ pub fn segments<const D: usize>(
             placed.as_ptr(),
             placed.len(),
             tol,
+            points.as_mut_ptr(),
+            points.len(),
             out.as_mut_ptr(),
             out.len(),
         )

@@ -11,7 +11,9 @@ pub type Clip<const D: usize> = fn(&Face<D>, &mut [f64]) -> usize;
 
 /// The proved clipping.
 pub fn ours<const D: usize>(face: &Face<D>, out: &mut [f64]) -> usize {
-    proved::segments(&face.polygon, &face.origin, &face.normal, face.tol, out)
+    let placed = [face.origin, face.normal];
+    let mut points = vec![PATTERN; face.room() / 2];
+    proved::segments(&face.polygon, &placed, face.tol, &mut points, out)
 }
 
 /// Stands in a buffer before it is lent, and must stand where nothing was written.

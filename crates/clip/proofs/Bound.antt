@@ -20,7 +20,7 @@ use Rattle.clip.specs.Cell.{CellBound, PolygonBound, atMost, cellSegment
 -- ---- the points of the edges: an edge to the inside may give two points, but must come from the outside
 
 -- 1 outside and 0 inside
-abbrev outside : Bool → ℕ
+abbrev pub outside : Bool → ℕ
 outside true = 0
 outside false = 1
 
@@ -30,14 +30,21 @@ edge-bound true false x b = omega arith
 edge-bound false true x b = omega arith
 edge-bound false false x b = omega arith
 
-abbrev outsideAt : Cut → Float → Vector → ℕ
+abbrev pub outsideAt : Cut → Float → Vector → ℕ
 outsideAt c s p = outside (inside c (signed c s p))
 
-side-bound : (c : Cut) (s : Float) (a b : Vector) → 2 * length (clipSide c s (seg a b)) + outsideAt c s b ≤ 3 + outsideAt c s a
+pub side-bound : (c : Cut) (s : Float) (a b : Vector) → 2 * length (clipSide c s (seg a b)) + outsideAt c s b ≤ 3 + outsideAt c s a
 side-bound c s a b =
     let da = signed c s a in
     let db = signed c s b in
     edge-bound (inside c da) (inside c db) (planeIntersection c a da b db) b
+
+pub outside-most : (c : Cut) (s : Float) (p : Vector) → outsideAt c s p ≤ 1
+outside-most c s p = byTest (inside c (signed c s p))
+  where
+    byTest : (b : Bool) → outside b ≤ 1
+    byTest true = omega arith
+    byTest false = omega arith
 
 sides-bound : (c : Cut) (s : Float) (f a : Vector) (l : List Vector)
     → 2 * length (clipSides c s (edgesTo f (a ∷ l))) + outsideAt c s f ≤ 3 * length (a ∷ l) + outsideAt c s a

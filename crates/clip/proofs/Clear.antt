@@ -1,25 +1,21 @@
 -- A face clear of the cut has no segment: each clipped point is then a corner, and no segment has an end that is not within tol.
 -- Assumes nothing.
-use mathlib.Core.Path.{_≡_, refl, ap, sym, _∙_}
+use mathlib.Core.Path.{_≡_, refl, ap, _∙_}
 use mathlib.Core.List.{List, [], _∷_, _++_}
-use mathlib.Core.Bool.{Bool, true, false, not, cond, _&&_, _||_, false≢true}
-use Prim.Native.Nat.{ℕ, zero, suc, _+_, _-_, _≤_, _<_}
-use native.Mathlib.Numerals.{add-one}
-use native.Mathlib.Omega.{arith}
+use mathlib.Core.Bool.{Bool, true, false, cond, _&&_}
+use Prim.Native.Nat.{ℕ, zero, suc, _-_}
 use lib.Dec.{ltb}
-use lib.Ieee.{Float, binary64, mul, lt, le, neg}
-use lib.ListN.{length, getD, take, drop, drop-of-length-le}
-use lib.Seq.{drop-cons}
-use Rattle.vector.specs.Number.{f0, f1, minusOne, abs}
+use lib.Ieee.{Float, le}
+use lib.ListN.{length, getD, take}
+use Rattle.vector.specs.Number.{f1, minusOne, abs}
 use Rattle.vector.specs.Vector.{Vector, dist2}
-use Rattle.vector.specs.Rows.{Seg, seg, row, rows}
-use Rattle.vector.proofs.Rows.{rows-getD, rows-length}
+use Rattle.vector.specs.Rows.{Seg, seg}
 use Rattle.clip.specs.declared.Side.{Side}
-use Rattle.clip.specs.declared.Side.the-variants.{Above, Below, Neither}
-use Rattle.clip.specs.Clip.{Cut, anyAbove, anyBelow, away, bySide, clipSides, clipped, duplicate, edges, edgesTo, inside, keptSide}
-use Rattle.clip.specs.Clip.{liesOn, planeSectionSegments, pushAll, pushSegment, pushSegments, pushUnique, sectionOn, segments, signed}
+use Rattle.clip.specs.declared.Side.the-variants.{Above, Below}
+use Rattle.clip.specs.Clip.{Cut, anyAbove, anyBelow, away, bySide, clipSides, clipped, edges, edgesTo, keptSide}
+use Rattle.clip.specs.Clip.{planeSectionSegments, pushAll, pushSegment, pushSegments, pushUnique, segments}
 use Rattle.clip.specs.Clip.{tol2, unique, withoutClosing}
-use Rattle.clip.specs.Clear.{Clear, ClearAbove, ClearBelow, ClearFace, ClearSide, Each, Higher, LeftOut, Lower}
+use Rattle.clip.specs.Clear.{Clear, ClearAbove, ClearBelow, ClearFace, ClearSide, Each, LeftOut}
 use Rattle.clip.proofs.Signs.{above-inside, above-off, below-inside, below-not-above, below-off}
 
 -- ---- each point of a list
@@ -151,36 +147,3 @@ left-out c ps =
           })
           ps g);
     }
-
--- ---- the loop over the corners: i of the n corners of xs are passed, each clear
-pub record Clearing (w n : ℕ) (xs : List Float) (c : Cut) (s : Float) (i : ℕ) : Type 0 where
-  pub all : Each (Clear c s) (drop i (rows w n xs)) → Each (Clear c s) (rows w n xs)
-  pub within : i ≤ n
-
-pub clearing-start : (w n : ℕ) (xs : List Float) (c : Cut) (s : Float) → Clearing w n xs c s 0
-clearing-start w n xs c s = record { all = λ h. h; within = omega arith }
-
-pub clearing-step : {w n : ℕ} {xs : List Float} {c : Cut} {s : Float} {i : ℕ} {p : Vector} → Clearing w n xs c s i → i < n
-    → p ≡ row w xs i → Clear c s p → Clearing w n xs c s (i + 1)
-clearing-step {w} {n} {xs} {c} {s} {i} {p} v h ep g =
-    let here : drop i (rows w n xs) ≡ p ∷ drop (i + 1) (rows w n xs) =
-    rw (add-one, drop-cons (rows w n xs) i [] (omega (arith, rows-length w n xs)), rows-getD w n xs i h, ep) in
-    record { all = λ r. v .all (rw here (g, r)); within = omega arith }
-
-pub clearing-end : {w n : ℕ} {xs : List Float} {c : Cut} {s : Float} {i : ℕ} → Clearing w n xs c s i → n ≤ i
-    → Each (Clear c s) (rows w n xs)
-clearing-end {w} {n} {xs} {c} {s} {i} v h =
-    let none : drop i (rows w n xs) ≡ [] = drop-of-length-le (rows w n xs) {i = i} (omega (arith, rows-length w n xs)) in
-    v .all (rw none tt)
-
--- what the test of a corner tells
-pub clear-corner : {c : Cut} {s d : Float} {p : Vector} {b : Bool} → d ≡ away c p
-    → b ≡ (not (le (abs d) (c .tol)) && le (neg (c .tol)) (mul binary64 s d)) → b ≡ true → Clear c s p
-clear-corner {c} {s} {d} {p} {b} ed eb h =
-    let g = sym eb ∙ h in
-    let f = byTest (le (abs d) (c .tol)) (le (neg (c .tol)) (mul binary64 s d)) g in
-    record { off = rw (← ed) (f .0); within = rw (← ed) (f .1) }
-  where
-    byTest : (x y : Bool) → (not x && y) ≡ true → (x ≡ false) × (y ≡ true)
-    byTest true y h = absurd (false≢true h)
-    byTest false y h = (refl, h)

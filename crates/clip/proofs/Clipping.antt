@@ -3,20 +3,24 @@ use mathlib.Core.Path.{_≡_, refl, ap, sym, _∙_}
 use mathlib.Core.List.{List, [], _∷_, _++_}
 use mathlib.Core.Bool.{true, false, cond}
 use Prim.Native.Nat.{ℕ, suc, _+_, _-_, _*_, _≤_, _<_}
+use mathlib.Core.Logic.{_⊎_, inl, inr}
 use native.Mathlib.Nat.{mul-le-mul-left}
 use native.Mathlib.Numerals.{add-one}
 use native.Mathlib.Omega.{arith}
-use lib.Ieee.{Float, binary64, mul, lt, le}
-use lib.ListN.{length, drop, length-append}
+use lib.Dec.{ltb}
+use lib.Ieee.{Float, nan, binary64, mul, lt, le}
+use lib.ListN.{length, getD, drop, length-append}
+use lib.Seq.{getD-drop}
 use borrow.Author.Tests.{lt-ltb, le-ltb, eq-eqb, ne-eqb}
+use Rattle.root.proofs.Floor.{lt-or-le}
 use Rattle.vector.specs.Vector.{Vector, diff, dist2, plus, scale}
-use Rattle.vector.specs.Rows.{row, rows, put}
+use Rattle.vector.specs.Rows.{row, rows, put, seg}
 use Rattle.vector.proofs.Rows.{drop-later, rest-put, rows-getD, rows-length, rows-put, rows-take}
-use Rattle.clip.specs.Clip.{Cut, away, clipEdge, clipSides, clipped, edges, planeIntersection, pushAll, pushUnique, ratio, signed}
+use Rattle.clip.specs.Clip.{Cut, away, clipEdge, clipSide, clipSides, clipped, edges, planeIntersection, pushAll, pushUnique, ratio, signed}
 use Rattle.clip.specs.Clip.{unique, withoutClosing}
 use Rattle.clip.specs.Cell.{atMost}
-use Rattle.clip.specs.Code.{Points, nextOf}
-use Rattle.clip.proofs.Bound.{clipSides-bound, clipped-bound, pushAll-bound}
+use Rattle.clip.specs.Code.{Distances, Points, nextOf}
+use Rattle.clip.proofs.Bound.{clipSides-bound, clipped-bound, outside-most, outsideAt, pushAll-bound, side-bound}
 use Rattle.clip.proofs.Ring.{edge-from, edges-end, next-corner}
 
 -- ---- the crossing, operation by operation
@@ -100,10 +104,49 @@ pub record Clipping (w : ℕ) (c : Cut) (s t : Float) (n : ℕ) (ps xs : List Fl
   pub within : i ≤ n
   pub corner : i < n → a ≡ row w ps i
   pub its-distance : da ≡ signed c s a
+  pub few : 2 * m + outsideAt c s a ≤ 3 * i + 1
 
-pub clipping-start : (w : ℕ) (c : Cut) (s t : Float) (n : ℕ) (ps xs : List Float) {a : Vector} {d : Float} → a ≡ row w ps 0 → d ≡ away c a
-    → Clipping w c s t n ps xs 0 0 xs a (mul binary64 s d)
-clipping-start w c s t n ps xs ea ed =
+-- the distances stand at the end of xs: the first, and the one that follows the edge i, which no point has been written over
+pub first-distance : (c : Cut) (w n : ℕ) (ps xs : List Float) (s : Float) → Distances c w n ps xs → 0 < n
+    → mul binary64 s (getD xs (length xs - n) nan) ≡ signed c s (row w ps 0)
+first-distance c w n ps xs s f h =
+    let z : length xs - n + 0 ≡ length xs - n = omega arith in
+    ap (mul binary64 s) (rw z at (f 0 h))
+
+module _ {w : ℕ} {c : Cut} {s t : Float} {n : ℕ} {ps xs : List Float} {i m : ℕ} {zs : List Float} {a : Vector} {da first : Float}
+    {j : ℕ} {b : Vector}
+    (v : Clipping w c s t n ps xs i m zs a da) (f : Distances c w n ps xs) (h : i < n) (ej : j ≡ nextOf i n) (eb : b ≡ row w ps j)
+    (fits : n ≤ length xs) (untouched : w * m ≤ length xs - n + (i + 1)) (e0 : first ≡ signed c s (row w ps 0)) where
+  unwritten : (k : ℕ) → w * m ≤ k → getD zs k nan ≡ getD xs k nan
+  unwritten k g =
+      let e : w * m + (k - w * m) ≡ k = omega arith in
+      rw e at (sym (getD-drop (w * m) zs (k - w * m) nan) ∙ ap (λ (l : List Float). getD l (k - w * m) nan) (v .rest)
+      ∙ getD-drop (w * m) xs (k - w * m) nan)
+
+  pub next-distance : {db : Float}
+      → db ≡ cond (ltb (length xs - n + i + 1) (length zs)) (mul binary64 s (getD zs (length xs - n + i + 1) nan)) first
+      → db ≡ signed c s b
+  next-distance ed = ed ∙ byPlace (lt-or-le (i + 1) n)
+    where
+      byPlace : (i + 1 < n) ⊎ (n ≤ i + 1)
+          → cond (ltb (length xs - n + i + 1) (length zs)) (mul binary64 s (getD zs (length xs - n + i + 1) nan)) first ≡ signed c s b
+      byPlace (inl g) =
+          let o : length xs - n + i + 1 ≡ length xs - n + (i + 1) = omega arith in
+          rw (
+            lt-ltb (length xs - n + i + 1) (length zs) (omega (arith, v .same-length)),
+            o,
+            unwritten (length xs - n + (i + 1)) untouched,
+            f (i + 1) g,
+            eb,
+            ej,
+            lt-ltb (i + 1) n g,
+          )
+      byPlace (inr g) =
+          rw (le-ltb (length xs - n + i + 1) (length zs) (omega (arith, v .same-length)), e0, eb, ej, le-ltb (i + 1) n g)
+
+pub clipping-start : (w : ℕ) (c : Cut) (s t : Float) (n : ℕ) (ps xs : List Float) {a : Vector} {da : Float} → a ≡ row w ps 0
+    → da ≡ signed c s a → Clipping w c s t n ps xs 0 0 xs a da
+clipping-start w c s t n ps xs {a} ea ed =
     record {
       total = refl;
       room = omega (arith, clipSides-bound c s (rows w n ps), rows-length w n ps);
@@ -111,22 +154,26 @@ clipping-start w c s t n ps xs ea ed =
       same-length = refl;
       within = omega arith;
       corner = λ _. ea;
-      its-distance = ap (mul binary64 s) ed;
+      its-distance = ed;
+      few = omega (arith, outside-most c s a);
     }
 
 module _ {w : ℕ} {c : Cut} {s t : Float} {n : ℕ} {ps xs : List Float} {i m : ℕ} {zs : List Float} {a : Vector} {da : Float}
-    {j : ℕ} {b : Vector} {d : Float} {k : List Vector}
-    (v : Clipping w c s t n ps xs i m zs a da) (h : i < n) (ej : j ≡ nextOf i n) (eb : b ≡ row w ps j) (ed : d ≡ away c b)
-    (ek : k ≡ clipEdge c a da b (mul binary64 s d)) where
+    {j : ℕ} {b : Vector} {db : Float} {k : List Vector}
+    (v : Clipping w c s t n ps xs i m zs a da) (h : i < n) (ej : j ≡ nextOf i n) (eb : b ≡ row w ps j) (ed : db ≡ signed c s b)
+    (ek : k ≡ clipEdge c a da b db) where
   side : clipSides c s (drop i (edges (rows w n ps))) ≡ k ++ clipSides c s (drop (i + 1) (edges (rows w n ps)))
   unfolding clipSides
   side = rw (edge-from w n ps h ej (v .corner h) eb, ek, v .its-distance, ed)
+
+  given : length k ≡ length (clipSide c s (seg a b))
+  given = let e : k ≡ clipSide c s (seg a b) = rw (ek, v .its-distance, ed) in ap length e
 
   pub clipping-room : m + length k ≤ atMost n
   clipping-room = omega (arith, v .room, ap length side, length-append k (clipSides c s (drop (i + 1) (edges (rows w n ps)))))
 
   pub clipping-step : {r : ℕ} {ys : List Float} → Points w zs (pushAll t (rows w m zs) k) r ys → length ys ≡ length zs
-      → Clipping w c s t n ps xs (i + 1) r ys b (mul binary64 s d)
+      → Clipping w c s t n ps xs (i + 1) r ys b db
   clipping-step {r} {ys} g l =
       let later = clipSides c s (drop (i + 1) (edges (rows w n ps))) in
       record {
@@ -136,7 +183,8 @@ module _ {w : ℕ} {c : Cut} {s t : Float} {n : ℕ} {ps xs : List Float} {i m :
         same-length = l ∙ v .same-length;
         within = omega arith;
         corner = next-corner w ps i ej eb;
-        its-distance = ap (mul binary64 s) ed;
+        its-distance = ed;
+        few = omega (arith, v .few, pushed-range m t k g .1, side-bound c s a b, given);
       }
 
 pub clipping-end : {w : ℕ} {c : Cut} {s t : Float} {n : ℕ} {ps xs : List Float} {i m : ℕ} {zs : List Float} {a : Vector} {da : Float}

@@ -1,17 +1,21 @@
 -- The section put together: few corners or points, either side, and neither. Assumes nothing.
 use mathlib.Core.Path.{_≡_, refl, ap, sym, _∙_}
 use mathlib.Core.List.{List, []}
+use mathlib.Core.Bool.{true, false, false≢true, true≢false}
 use Prim.Native.Nat.{ℕ, _≤_, _<_}
 use native.Mathlib.Omega.{arith}
-use lib.Ieee.{Float}
+use lib.Ieee.{Float, eq}
 use lib.ListN.{length}
 use borrow.Author.Tests.{lt-ltb, le-ltb}
+use Rattle.vector.specs.Number.{f0}
+use Rattle.vector.specs.Vector.{Vector}
 use Rattle.vector.specs.Rows.{Seg, rows}
 use Rattle.vector.proofs.Rows.{rows-length, segs-length}
 use Rattle.clip.specs.declared.Side.{Side}
-use Rattle.clip.specs.Clip.{Cut, bySide, clipped, edges, keptSide, planeSectionSegments, pushSegments, sectionOn, tol2, withoutClosing}
+use Rattle.clip.specs.declared.Side.the-variants.{Above, Below, Neither}
+use Rattle.clip.specs.Clip.{Cut, bySide, clipped, edges, planeSectionSegments, pushSegments, sectionOn, tol2, withoutClosing}
 use Rattle.clip.specs.Cell.{atMost}
-use Rattle.clip.specs.Code.{Points, Segments}
+use Rattle.clip.specs.Code.{Points, Segments, Sided, signOf}
 use Rattle.clip.proofs.Bound.{section-bound}
 
 pub no-segments : (w : ℕ) (xs : List Float) {k : List Seg} → k ≡ [] → Segments w xs k 0 xs
@@ -33,17 +37,33 @@ module _ {w : ℕ} (c : Cut) (s : Float) (n : ℕ) (ps : List Float) (r : ℕ) {
       → Segments w ys (sectionOn c s (rows w n ps)) o us
   many-points q = segments-as (rw (← left, rows-length w r zs, le-ltb r 2 q))
 
+-- ---- a side by its sign
+neither-none : (c : Cut) (ps : List Vector) (g : Side) → eq (signOf g) f0 ≡ true → bySide c ps g ≡ []
+unfolding eq
+neither-none c ps Above h = absurd (false≢true h)
+neither-none c ps Below h = absurd (false≢true h)
+neither-none c ps Neither h = refl
+
+side-section : (c : Cut) (ps : List Vector) (g : Side) → eq (signOf g) f0 ≡ false → bySide c ps g ≡ sectionOn c (signOf g) ps
+unfolding eq
+side-section c ps Above h = refl
+side-section c ps Below h = refl
+side-section c ps Neither h = absurd (true≢false h)
+
 -- ---- the whole
 module _ (w : ℕ) (c : Cut) (n : ℕ) (ps : List Float) where
   pub few-corners : n < 3 → (xs : List Float) → Segments w xs (planeSectionSegments c (rows w n ps)) 0 xs
   unfolding planeSectionSegments
   few-corners h xs = no-segments w xs (rw (rows-length w n ps, lt-ltb n 3 h))
 
-  pub on-side : {g : Side} (v : Side) → 3 ≤ n → g ≡ keptSide c (rows w n ps) → g ≡ v
-      → {xs : List Float} {r : ℕ} {zs : List Float} → Segments w xs (bySide c (rows w n ps) v) r zs
+  pub on-neither : {g : Side} {qs : List Float} {s : Float} → Sided c w n ps g qs → s ≡ signOf g → eq s f0 ≡ true
+      → (xs : List Float) → Segments w xs (planeSectionSegments c (rows w n ps)) 0 xs
+  on-neither {g} h e q xs = no-segments w xs (h .section ∙ neither-none c (rows w n ps) g (rw e at q))
+
+  pub on-side : {g : Side} {qs : List Float} {s : Float} → Sided c w n ps g qs → s ≡ signOf g → eq s f0 ≡ false
+      → {xs : List Float} {r : ℕ} {zs : List Float} → Segments w xs (sectionOn c s (rows w n ps)) r zs
       → Segments w xs (planeSectionSegments c (rows w n ps)) r zs
-  unfolding planeSectionSegments
-  on-side v h e q = segments-as (rw (rows-length w n ps, le-ltb n 3 h) (ap (bySide c (rows w n ps)) (sym e ∙ q)))
+  on-side {g} h e q = segments-as (h .section ∙ side-section c (rows w n ps) g (rw e at q) ∙ rw e)
 
   pub section-count : {xs : List Float} {r : ℕ} {zs : List Float} → Segments w xs (planeSectionSegments c (rows w n ps)) r zs → r ≤ atMost n
   section-count {xs} {r} {zs} h =

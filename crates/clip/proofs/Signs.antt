@@ -1,13 +1,12 @@
 -- Distances beyond the tolerance: such a distance is not within it, whatever the numbers, and times its sign it is inside where the
 -- tolerance is not negative. Assumes nothing.
 use mathlib.Core.Path.{_≡_, refl}
-use mathlib.Core.Bool.{Bool, true, false, not, cond, _&&_, _||_, Bool·beq, false≢true, true≢false}
-use Prim.Native.Nat.{ℕ, zero, suc, _+_, _*_, _≤_, _<_}
+use mathlib.Core.Bool.{Bool, true, false, cond, _&&_, _||_, false≢true, true≢false}
+use Prim.Native.Nat.{ℕ, zero, suc, _+_, _*_}
 use native.Mathlib.Nat.{mul-le-mul-right, zero-mul}
 use native.Mathlib.Omega.{arith}
-use borrow.Author.Tests.{eq-eqb, eqb-true, le-ltb, lt-ltb, ltb-false, ltb-true, ne-eqb}
+use borrow.Author.Tests.{eqb-true, le-ltb, lt-ltb, ltb-false, ltb-true, ne-eqb}
 use lib.Dec.{T, eqb, ltb}
-use lib.IntN.{ℤ}
 use lib.Ieee.{Float, nan, inf, fin, binary64, below, level, up, down, mul, neg, lt, le, eq}
 use Rattle.vector.specs.Number.{f0, f1, minusOne, abs}
 use Rattle.vector.proofs.Tolerance.{plusSigned, round-plus}

@@ -3,7 +3,6 @@
 use mathlib.Core.Path.{_≡_}
 use mathlib.Core.List.{List, [], _∷_}
 use mathlib.Core.Bool.{true, false}
-use Prim.Native.Nat.{ℕ}
 use lib.Ieee.{Float, lt, le, neg}
 use Rattle.vector.specs.Number.{f0, f1, minusOne, abs}
 use Rattle.vector.specs.Vector.{Vector}

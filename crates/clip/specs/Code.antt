@@ -1,13 +1,17 @@
 -- What the clauses of the code say of slices and indices. Definitions only.
 use mathlib.Core.Path.{_≡_}
 use mathlib.Core.List.{List, [], _∷_}
-use mathlib.Core.Bool.{cond}
-use Prim.Native.Nat.{ℕ, _+_, _-_, _*_, _≤_}
-use lib.Dec.{ltb}
-use lib.Ieee.{Float}
-use lib.ListN.{drop}
+use mathlib.Core.Bool.{cond, _&&_, _||_}
+use Prim.Native.Nat.{ℕ, _+_, _-_, _*_, _≤_, _<_}
+use lib.Dec.{eqb, ltb}
+use lib.Ieee.{Float, nan, le}
+use lib.ListN.{length, getD, drop}
+use Rattle.vector.specs.Number.{f0, f1, minusOne}
 use Rattle.vector.specs.Vector.{Vector}
-use Rattle.vector.specs.Rows.{Seg, rows, segs}
+use Rattle.vector.specs.Rows.{Seg, row, rows, segs}
+use Rattle.clip.specs.declared.Side.{Side}
+use Rattle.clip.specs.declared.Side.the-variants.{Above, Below, Neither}
+use Rattle.clip.specs.Clip.{Cut, away, bySide, planeSectionSegments}
 use Rattle.clip.specs.Cell.{atMost}
 
 -- the place after i in a ring of n
@@ -23,6 +27,26 @@ pub record Points (w : ℕ) (xs : List Float) (k : List Vector) (r : ℕ) (zs : 
 pub record Segments (w : ℕ) (xs : List Float) (k : List Seg) (r : ℕ) (zs : List Float) : Type 0 where
   pub are : segs w r zs ≡ k
   pub rest : drop (w * (2 * r)) zs ≡ drop (w * (2 * r)) xs
+
+-- the last n numbers of xs are the distances of the first n points of ps, w numbers each
+abbrev pub Distances : Cut → ℕ → ℕ → List Float → List Float → Type 0
+Distances c w n ps xs = (k : ℕ) → k < n → getD xs (length xs - n + k) nan ≡ away c (row w ps k)
+
+-- The side g is one whose segments are the section of the polygon of the first n points of ps, and xs ends with their distances.
+pub record Sided (c : Cut) (w n : ℕ) (ps : List Float) (g : Side) (xs : List Float) : Type 0 where
+  pub section : planeSectionSegments c (rows w n ps) ≡ bySide c (rows w n ps) g
+  pub distances : Distances c w n ps xs
+
+-- the side to clip to, if so many of n corners are above tol and below -tol: neither, if all are and tol is not negative
+abbrev pub sideOf : ℕ → ℕ → ℕ → Float → Side
+sideOf above below n tol =
+    cond (le f0 tol && (eqb above n || eqb below n)) Neither (cond (ltb 0 above) Above (cond (ltb 0 below) Below Neither))
+
+-- the sign by which distances on a side become positive; 0 on neither
+abbrev pub signOf : Side → Float
+signOf Above = f1
+signOf Below = minusOne
+signOf Neither = f0
 
 -- The faces whose ends are running totals from s on: no end is below the one before it, or above m, and each face has room for
 -- its clipped points in p numbers and for its segments in space in q numbers.

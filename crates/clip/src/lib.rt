@@ -1,22 +1,38 @@
 // The section of a polygon by a plane in space (`space`) or by a line in the plane (`plane`): the same functions at two widths.
 ghost use mathlib.Core.Path.{_≡_};
-ghost use mathlib.Core.Bool.{not, _&&_, _||_};
-ghost use Prim.Native.Nat.{_<_};
-ghost use lib.Ieee.{binary64, le, lt, mul, neg};
-ghost use Rattle.vector.specs.Number.{abs};
+ghost use mathlib.Core.Bool.{_&&_, _||_, cond};
+ghost use Prim.Native.Nat.{_+_, _<_, _≤_};
+ghost use lib.Dec.{eqb, ltb};
+ghost use lib.Ieee.{binary64, le, mul, nan};
+ghost use lib.ListN.{getD, length};
+ghost use Rattle.vector.specs.Number.{f0};
 ghost use Rattle.clip.specs.Clip.{ratio};
-ghost use Rattle.clip.specs.Code.{nextOf};
+ghost use Rattle.clip.specs.Code.{nextOf, sideOf, signOf};
 
 pub mod plane;
 pub mod space;
 
 use vector::absolute;
 
-// The side of the cut that a polygon is clipped to; neither, if no corner is above tol or below -tol.
+// The side of the cut that a polygon is clipped to; neither, if no corner is above tol or below -tol, or if all are on
+// one side.
 pub enum Side {
     Above,
     Below,
     Neither,
+}
+
+impl Side {
+    // The sign by which distances on this side become positive; 0 on neither.
+    fn sign(self) -> f64
+        ensures { λ r. ⌜ r ≡ signOf self ⌝ }
+    {
+        match self {
+            Side::Above => 1.0,
+            Side::Below => -1.0,
+            Side::Neither => 0.0,
+        }
+    }
 }
 
 // The least normal number, 2^-1022.
@@ -43,24 +59,55 @@ fn both_at_most(x: f64, y: f64, t: f64) -> bool
     false
 }
 
-// Whether d is below -tol, or a distance that is was seen before.
-fn or_below(seen: bool, d: f64, tol: f64) -> bool
-    ensures { λ r. ⌜ r ≡ seen || lt d (neg tol) ⌝ }
+// k, and one more if the test holds.
+fn counted(k: usize, test: bool) -> usize
+    requires { ⌜ k + 1 ≤ 18446744073709551615 ⌝ }
+    ensures { λ r. ⌜ r ≡ k + cond test 1 0 ⌝ }
 {
-    if seen {
-        return true;
+    if test {
+        return k + 1;
     }
-    d < -tol
+    k
 }
 
-// Whether a corner at the distance d is clear of the cut on the side of this sign: not within tol, and inside.
-fn is_clear(d: f64, sign: f64, tol: f64) -> bool
-    ensures { λ r. ⌜ r ≡ not (le (abs d) tol) && le (neg tol) (mul binary64 sign d) ⌝ }
+// The side to clip to, if so many of n corners are above tol and below -tol: none if they all are, since the face
+// is then clear of the cut.
+fn side_of(above: usize, below: usize, n: usize, tol: f64) -> Side
+    ensures { λ r. ⌜ r ≡ sideOf above below n tol ⌝ }
 {
-    if absolute(d) <= tol {
-        return false;
+    if is_clear(above, below, n, tol) {
+        return Side::Neither;
     }
-    sign * d >= -tol
+    if above > 0 {
+        return Side::Above;
+    }
+    if below > 0 {
+        return Side::Below;
+    }
+    Side::Neither
+}
+
+// Whether all of n corners are above tol, or all below -tol, and tol is not negative.
+fn is_clear(above: usize, below: usize, n: usize, tol: f64) -> bool
+    ensures { λ r. ⌜ r ≡ le f0 tol && (eqb above n || eqb below n) ⌝ }
+{
+    if tol >= 0.0 {
+        if above == n {
+            return true;
+        }
+        return below == n;
+    }
+    false
+}
+
+// The signed distance at a place of xs, or after its end that of the first corner.
+fn signed_at(xs: &[f64], at: usize, sign: f64, first: f64) -> f64
+    ensures { λ r. ⌜ r ≡ cond (ltb at (length (now (xs .entry)))) (mul binary64 sign (getD (now (xs .entry)) at nan)) first ⌝ }
+{
+    if at < xs.len() {
+        return sign * xs[at];
+    }
+    first
 }
 
 // The place after i in a ring of n.

@@ -1,23 +1,22 @@
 // Polygons in the plane, cut by a line: the functions of `space`, one width less.
 ghost use mathlib.Core.Path.{_≡_};
-ghost use mathlib.Core.Bool.{true};
 ghost use mathlib.Core.List.{[]};
 ghost use Prim.Native.Nat.{_+_, _*_, _<_, _≤_};
 ghost use lib.ListN.{length};
 ghost use Rattle.vector.specs.Rows.{rows, seg, segs};
 ghost use Rattle.vector.specs.View.{vec2};
-ghost use Rattle.clip.specs.Clip.{alike, clipEdge, clipSides, duplicate, edges, keptSide, liesOn, planeIntersection};
+ghost use Rattle.clip.specs.Clip.{alike, clipEdge, clipSides, duplicate, edges, liesOn, planeIntersection};
 ghost use Rattle.clip.specs.Clip.{planeSectionSegments, pushAll, pushSegment, pushSegments, pushUnique, sectionOn, withoutClosing};
 ghost use Rattle.clip.specs.Cell.{atMost};
-ghost use Rattle.clip.specs.Clear.{Clear, Each};
-ghost use Rattle.clip.specs.Code.{Points, Segments};
+ghost use Rattle.clip.specs.Code.{Distances, Points, Segments, Sided};
 ghost use Rattle.clip.specs.View.{cut2, points2};
 use crate::Side;
 use crate::both_at_most;
-use crate::is_clear;
+use crate::counted;
 use crate::next_of;
-use crate::or_below;
 use crate::ratio;
+use crate::side_of;
+use crate::signed_at;
 use vector::Vec2;
 use vector::absolute;
 use vector::point2;
@@ -57,53 +56,31 @@ pub fn plane_section_segments(
     if n < 3 {
         return 0;
     }
-    let side = kept_side(poly, n, cut);
-    match side {
-        Side::Above => section_on(poly, n, cut, 1.0, points, out),
-        Side::Below => section_on(poly, n, cut, -1.0, points, out),
-        Side::Neither => 0,
+    let sign = kept_side(poly, n, cut, points).sign();
+    if sign == 0.0 {
+        return 0;
     }
+    section_on(poly, n, cut, sign, points, out)
 }
 
-// The same for a polygon of at most four corners, with room of its own for the clipped points.
-pub fn section_small(poly: &[f64], n: usize, cut: Cut, out: &mut [f64]) -> usize
-    requires { ⌜ (n ≤ 4) × (2 * n ≤ length (now poly)) × (4 * atMost n ≤ length (now out)) ⌝ }
-    ensures { λ r. ⌜ Segments 2 (now (out .entry))
-        (planeSectionSegments (cut2 cut) (rows 2 n (now (poly .entry)))) r (now (out .exit)) ⌝ }
+// The side that holds the polygon's interior: above if any corner is, else below if any is; and neither if the face
+// is clear of the cut, so that it has no section. Leaves the distances of the corners in the last places of points.
+fn kept_side(poly: &[f64], n: usize, cut: Cut, points: &mut [f64]) -> Side
+    requires { ⌜ (3 ≤ n) × (2 * n ≤ length (now poly)) × (n ≤ length (now points)) ⌝ }
+    ensures { λ r. ⌜ Sided (cut2 cut) 2 n (now (poly .entry)) r (now (points .exit)) ⌝ }
 {
-    let mut points = [0.0f64; 12];
-    plane_section_segments(poly, n, cut, &mut points, out)
-}
-
-// The same for a polygon of at most 384 corners.
-pub fn section_large(poly: &[f64], n: usize, cut: Cut, out: &mut [f64]) -> usize
-    requires { ⌜ (n ≤ 384) × (2 * n ≤ length (now poly)) × (4 * atMost n ≤ length (now out)) ⌝ }
-    ensures { λ r. ⌜ Segments 2 (now (out .entry))
-        (planeSectionSegments (cut2 cut) (rows 2 n (now (poly .entry)))) r (now (out .exit)) ⌝ }
-{
-    let mut points = [0.0f64; 1152];
-    plane_section_segments(poly, n, cut, &mut points, out)
-}
-
-// The side that holds the polygon's interior: above if any corner is, else below if any is.
-fn kept_side(poly: &[f64], n: usize, cut: Cut) -> Side
-    requires { ⌜ 2 * n ≤ length (now poly) ⌝ }
-    ensures { λ r. ⌜ r ≡ keptSide (cut2 cut) (rows 2 n (now (poly .entry))) ⌝ }
-{
-    let mut seen = false;
+    let at = points.len() - n;
+    let mut above = 0;
+    let mut below = 0;
     let mut i = 0;
     while i < n {
         let d = point2(poly, i).distance(cut.origin, cut.normal);
-        if d > cut.tol {
-            return Side::Above;
-        }
-        seen = or_below(seen, d, cut.tol);
+        points[at + i] = d;
+        above = counted(above, d > cut.tol);
+        below = counted(below, d < -cut.tol);
         i += 1;
     }
-    if seen {
-        return Side::Below;
-    }
-    Side::Neither
+    side_of(above, below, n, cut.tol)
 }
 
 // The segments of the polygon clipped to the side of this sign, written to out. Gives how many there are.
@@ -116,13 +93,10 @@ fn section_on(
     out: &mut [f64],
 ) -> usize
     requires { ⌜ (0 < n) × (2 * n ≤ length (now poly)) × (2 * atMost n ≤ length (now points))
-        × (4 * atMost n ≤ length (now out)) ⌝ }
+        × (4 * atMost n ≤ length (now out)) × Distances (cut2 cut) 2 n (now poly) (now points) ⌝ }
     ensures { λ r. ⌜ Segments 2 (now (out .entry)) (sectionOn (cut2 cut) sign (rows 2 n (now (poly .entry)))) r
         (now (out .exit)) ⌝ }
 {
-    if all_clear(poly, n, cut, sign) {
-        return 0;
-    }
     let tol2 = cut.tol * cut.tol;
     let clipped = clip_polygon(poly, n, cut, sign, tol2, points);
     let m = without_closing(points, clipped, tol2);
@@ -132,36 +106,24 @@ fn section_on(
     segments(points, m, cut, tol2, out)
 }
 
-// Whether every corner is clear of the cut on the side of this sign. No segment is there then.
-fn all_clear(poly: &[f64], n: usize, cut: Cut, sign: f64) -> bool
-    requires { ⌜ 2 * n ≤ length (now poly) ⌝ }
-    ensures { λ r. ⌜ (r ≡ true → Each (Clear (cut2 cut) sign) (rows 2 n (now (poly .entry)))) ⌝ }
-{
-    let mut i = 0;
-    while i < n {
-        let d = point2(poly, i).distance(cut.origin, cut.normal);
-        if !is_clear(d, sign, cut.tol) {
-            return false;
-        }
-        i += 1;
-    }
-    true
-}
-
-// The clipped points of the polygon, written to points. Gives how many there are.
+// The clipped points of the polygon, written to points. Gives how many there are. The distances of the corners stand
+// in the last places of points, and each is read before a point can be written there.
 fn clip_polygon(poly: &[f64], n: usize, cut: Cut, sign: f64, tol2: f64, points: &mut [f64]) -> usize
-    requires { ⌜ (0 < n) × (2 * n ≤ length (now poly)) × (2 * atMost n ≤ length (now points)) ⌝ }
+    requires { ⌜ (0 < n) × (2 * n ≤ length (now poly)) × (2 * atMost n ≤ length (now points))
+        × Distances (cut2 cut) 2 n (now poly) (now points) ⌝ }
     ensures { λ r. ⌜ Points 2 (now (points .entry))
         (pushAll tol2 [] (clipSides (cut2 cut) sign (edges (rows 2 n (now (poly .entry)))))) r
         (now (points .exit)) ⌝ }
 {
+    let at = points.len() - n;
+    let first = sign * points[at];
     let mut a = point2(poly, 0);
-    let mut da = sign * a.distance(cut.origin, cut.normal);
+    let mut da = first;
     let mut m = 0;
     let mut i = 0;
     while i < n {
         let b = point2(poly, next_of(i, n));
-        let db = sign * b.distance(cut.origin, cut.normal);
+        let db = signed_at(points, at + i + 1, sign, first);
         m = push_clip(points, m, clip_edge(a, da, b, db, cut), tol2);
         a = b;
         da = db;

@@ -1,23 +1,22 @@
 // Polygons in space, cut by a plane.
 ghost use mathlib.Core.Path.{_≡_};
-ghost use mathlib.Core.Bool.{true};
 ghost use mathlib.Core.List.{[], _++_, map};
 ghost use Prim.Native.Nat.{_+_, _*_, _<_, _≤_};
 ghost use lib.ListN.{length};
 ghost use Rattle.vector.specs.Rows.{rows, seg, segs};
 ghost use Rattle.vector.specs.View.{frameOf, vec3};
-ghost use Rattle.clip.specs.Clip.{alike, clipEdge, clipSides, duplicate, edges, keptSide, liesOn, planeIntersection};
+ghost use Rattle.clip.specs.Clip.{alike, clipEdge, clipSides, duplicate, edges, liesOn, planeIntersection};
 ghost use Rattle.clip.specs.Clip.{planeSectionSegments, pushAll, pushSegment, pushSegments, pushUnique, sectionOn, withoutClosing};
 ghost use Rattle.clip.specs.Cell.{atMost, cellSegments, cutBy, faceSegments, facesOf, projectSeg};
-ghost use Rattle.clip.specs.Clear.{Clear, Each};
-ghost use Rattle.clip.specs.Code.{Fit, Points, Segments};
+ghost use Rattle.clip.specs.Code.{Distances, Fit, Points, Segments, Sided};
 ghost use Rattle.clip.specs.View.{cut3, points3};
 use crate::Side;
 use crate::both_at_most;
-use crate::is_clear;
+use crate::counted;
 use crate::next_of;
-use crate::or_below;
 use crate::ratio;
+use crate::side_of;
+use crate::signed_at;
 use vector::Plane;
 use vector::Vec3;
 use vector::absolute;
@@ -138,53 +137,31 @@ pub fn plane_section_segments(
     if n < 3 {
         return 0;
     }
-    let side = kept_side(poly, n, cut);
-    match side {
-        Side::Above => section_on(poly, n, cut, 1.0, points, out),
-        Side::Below => section_on(poly, n, cut, -1.0, points, out),
-        Side::Neither => 0,
+    let sign = kept_side(poly, n, cut, points).sign();
+    if sign == 0.0 {
+        return 0;
     }
+    section_on(poly, n, cut, sign, points, out)
 }
 
-// The same for a polygon of at most four corners, with room of its own for the clipped points.
-pub fn section_small(poly: &[f64], n: usize, cut: Cut, out: &mut [f64]) -> usize
-    requires { ⌜ (n ≤ 4) × (3 * n ≤ length (now poly)) × (6 * atMost n ≤ length (now out)) ⌝ }
-    ensures { λ r. ⌜ Segments 3 (now (out .entry))
-        (planeSectionSegments (cut3 cut) (rows 3 n (now (poly .entry)))) r (now (out .exit)) ⌝ }
+// The side that holds the polygon's interior: above if any corner is, else below if any is; and neither if the face
+// is clear of the cut, so that it has no section. Leaves the distances of the corners in the last places of points.
+fn kept_side(poly: &[f64], n: usize, cut: Cut, points: &mut [f64]) -> Side
+    requires { ⌜ (3 ≤ n) × (3 * n ≤ length (now poly)) × (n ≤ length (now points)) ⌝ }
+    ensures { λ r. ⌜ Sided (cut3 cut) 3 n (now (poly .entry)) r (now (points .exit)) ⌝ }
 {
-    let mut points = [0.0f64; 18];
-    plane_section_segments(poly, n, cut, &mut points, out)
-}
-
-// The same for a polygon of at most 256 corners.
-pub fn section_large(poly: &[f64], n: usize, cut: Cut, out: &mut [f64]) -> usize
-    requires { ⌜ (n ≤ 256) × (3 * n ≤ length (now poly)) × (6 * atMost n ≤ length (now out)) ⌝ }
-    ensures { λ r. ⌜ Segments 3 (now (out .entry))
-        (planeSectionSegments (cut3 cut) (rows 3 n (now (poly .entry)))) r (now (out .exit)) ⌝ }
-{
-    let mut points = [0.0f64; 1152];
-    plane_section_segments(poly, n, cut, &mut points, out)
-}
-
-// The side that holds the polygon's interior: above if any corner is, else below if any is.
-fn kept_side(poly: &[f64], n: usize, cut: Cut) -> Side
-    requires { ⌜ 3 * n ≤ length (now poly) ⌝ }
-    ensures { λ r. ⌜ r ≡ keptSide (cut3 cut) (rows 3 n (now (poly .entry))) ⌝ }
-{
-    let mut seen = false;
+    let at = points.len() - n;
+    let mut above = 0;
+    let mut below = 0;
     let mut i = 0;
     while i < n {
         let d = point3(poly, i).distance(cut.origin, cut.normal);
-        if d > cut.tol {
-            return Side::Above;
-        }
-        seen = or_below(seen, d, cut.tol);
+        points[at + i] = d;
+        above = counted(above, d > cut.tol);
+        below = counted(below, d < -cut.tol);
         i += 1;
     }
-    if seen {
-        return Side::Below;
-    }
-    Side::Neither
+    side_of(above, below, n, cut.tol)
 }
 
 // The segments of the polygon clipped to the side of this sign, written to out. Gives how many there are.
@@ -197,13 +174,10 @@ fn section_on(
     out: &mut [f64],
 ) -> usize
     requires { ⌜ (0 < n) × (3 * n ≤ length (now poly)) × (3 * atMost n ≤ length (now points))
-        × (6 * atMost n ≤ length (now out)) ⌝ }
+        × (6 * atMost n ≤ length (now out)) × Distances (cut3 cut) 3 n (now poly) (now points) ⌝ }
     ensures { λ r. ⌜ Segments 3 (now (out .entry)) (sectionOn (cut3 cut) sign (rows 3 n (now (poly .entry)))) r
         (now (out .exit)) ⌝ }
 {
-    if all_clear(poly, n, cut, sign) {
-        return 0;
-    }
     let tol2 = cut.tol * cut.tol;
     let clipped = clip_polygon(poly, n, cut, sign, tol2, points);
     let m = without_closing(points, clipped, tol2);
@@ -213,36 +187,24 @@ fn section_on(
     segments(points, m, cut, tol2, out)
 }
 
-// Whether every corner is clear of the cut on the side of this sign. No segment is there then.
-fn all_clear(poly: &[f64], n: usize, cut: Cut, sign: f64) -> bool
-    requires { ⌜ 3 * n ≤ length (now poly) ⌝ }
-    ensures { λ r. ⌜ (r ≡ true → Each (Clear (cut3 cut) sign) (rows 3 n (now (poly .entry)))) ⌝ }
-{
-    let mut i = 0;
-    while i < n {
-        let d = point3(poly, i).distance(cut.origin, cut.normal);
-        if !is_clear(d, sign, cut.tol) {
-            return false;
-        }
-        i += 1;
-    }
-    true
-}
-
-// The clipped points of the polygon, written to points. Gives how many there are.
+// The clipped points of the polygon, written to points. Gives how many there are. The distances of the corners stand
+// in the last places of points, and each is read before a point can be written there.
 fn clip_polygon(poly: &[f64], n: usize, cut: Cut, sign: f64, tol2: f64, points: &mut [f64]) -> usize
-    requires { ⌜ (0 < n) × (3 * n ≤ length (now poly)) × (3 * atMost n ≤ length (now points)) ⌝ }
+    requires { ⌜ (0 < n) × (3 * n ≤ length (now poly)) × (3 * atMost n ≤ length (now points))
+        × Distances (cut3 cut) 3 n (now poly) (now points) ⌝ }
     ensures { λ r. ⌜ Points 3 (now (points .entry))
         (pushAll tol2 [] (clipSides (cut3 cut) sign (edges (rows 3 n (now (poly .entry)))))) r
         (now (points .exit)) ⌝ }
 {
+    let at = points.len() - n;
+    let first = sign * points[at];
     let mut a = point3(poly, 0);
-    let mut da = sign * a.distance(cut.origin, cut.normal);
+    let mut da = first;
     let mut m = 0;
     let mut i = 0;
     while i < n {
         let b = point3(poly, next_of(i, n));
-        let db = sign * b.distance(cut.origin, cut.normal);
+        let db = signed_at(points, at + i + 1, sign, first);
         m = push_clip(points, m, clip_edge(a, da, b, db, cut), tol2);
         a = b;
         da = db;

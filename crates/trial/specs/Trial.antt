@@ -31,10 +31,11 @@ Refused r out out′ = (r ≡ refused) × (out′ ≡ out)
 abbrev pub cutIn : ℕ → List Float → Float → Cut
 cutIn w xs tol = record { origin = row w xs 0; normal = row w xs 1; tol = tol }
 
--- at most so many corners, two rows, and room for the segments
-abbrev pub ClipFits : ℕ → ℕ → List Float → List Float → List Float → Type 0
-ClipFits w limit poly placed out =
-    (length poly / w ≤ limit) × (2 * w ≤ length placed) × (2 * w * atMost (length poly / w) ≤ length out)
+-- at most so many corners, two rows, and room for the clipped points and for the segments
+abbrev pub ClipFits : ℕ → ℕ → List Float → List Float → List Float → List Float → Type 0
+ClipFits w limit poly placed points out =
+    (length poly / w ≤ limit) × (2 * w ≤ length placed) × (w * atMost (length poly / w) ≤ length points)
+    × (2 * w * atMost (length poly / w) ≤ length out)
 
 -- the segments of the polygon of the first n rows
 abbrev pub Clips : ℕ → ℕ → List Float → List Float → Float → List Float → ℕ → List Float → Type 0

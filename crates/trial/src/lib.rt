@@ -23,15 +23,16 @@ use vector::put3;
 // The answer to lengths that do not fit.
 const REFUSED: usize = 4294967295;
 
-// The segments of a polygon in space, written to out, by a cut in two rows: its origin and its normal.
+// The segments of a polygon in space, written to out, by a cut in two rows: its origin and its normal. Lends `points` as scratch.
 #[no_mangle]
 pub extern "C" fn trial_space_segments(
     poly: &[f64],
     placed: &[f64],
     tol: f64,
+    points: &mut [f64],
     out: &mut [f64],
 ) -> usize
-    ensures { λ r. ⌜ Total (ClipFits 3 256 (now (poly .entry)) (now (placed .entry)) (now (out .entry)))
+    ensures { λ r. ⌜ Total (ClipFits 3 256 (now (poly .entry)) (now (placed .entry)) (now (points .entry)) (now (out .entry)))
         (Clips 3 (length (now (poly .entry)) / 3) (now (poly .entry)) (now (placed .entry)) tol (now (out .entry)) r
         (now (out .exit)))
         (Refused r (now (out .entry)) (now (out .exit))) ⌝ }
@@ -43,16 +44,26 @@ pub extern "C" fn trial_space_segments(
     if placed.len() < 6 {
         return REFUSED;
     }
+    if points.len() < 3 * (3 * n / 2) {
+        return REFUSED;
+    }
     if out.len() < 6 * (3 * n / 2) {
         return REFUSED;
     }
-    space_segments(poly, n, placed, tol, out)
+    space_segments(poly, n, placed, tol, points, out)
 }
 
-// The segments of n corners; up to four take the smaller scratch.
-fn space_segments(poly: &[f64], n: usize, placed: &[f64], tol: f64, out: &mut [f64]) -> usize
-    requires { ⌜ (n ≤ 256) × (3 * n ≤ length (now poly)) × (6 ≤ length (now placed))
-        × (6 * atMost n ≤ length (now out)) ⌝ }
+// The segments of n corners.
+fn space_segments(
+    poly: &[f64],
+    n: usize,
+    placed: &[f64],
+    tol: f64,
+    points: &mut [f64],
+    out: &mut [f64],
+) -> usize
+    requires { ⌜ (3 * n ≤ length (now poly)) × (6 ≤ length (now placed))
+        × (3 * atMost n ≤ length (now points)) × (6 * atMost n ≤ length (now out)) ⌝ }
     ensures { λ r. ⌜ Clips 3 n (now (poly .entry)) (now (placed .entry)) tol (now (out .entry)) r (now (out .exit)) ⌝ }
 {
     let cut = clip::space::Cut {
@@ -60,10 +71,7 @@ fn space_segments(poly: &[f64], n: usize, placed: &[f64], tol: f64, out: &mut [f
         normal: point3(placed, 1),
         tol: tol,
     };
-    if n <= 4 {
-        return clip::space::section_small(poly, n, cut, out);
-    }
-    clip::space::section_large(poly, n, cut, out)
+    clip::space::plane_section_segments(poly, n, cut, points, out)
 }
 
 // The same in the plane.
@@ -72,9 +80,10 @@ pub extern "C" fn trial_plane_segments(
     poly: &[f64],
     placed: &[f64],
     tol: f64,
+    points: &mut [f64],
     out: &mut [f64],
 ) -> usize
-    ensures { λ r. ⌜ Total (ClipFits 2 384 (now (poly .entry)) (now (placed .entry)) (now (out .entry)))
+    ensures { λ r. ⌜ Total (ClipFits 2 384 (now (poly .entry)) (now (placed .entry)) (now (points .entry)) (now (out .entry)))
         (Clips 2 (length (now (poly .entry)) / 2) (now (poly .entry)) (now (placed .entry)) tol (now (out .entry)) r
         (now (out .exit)))
         (Refused r (now (out .entry)) (now (out .exit))) ⌝ }
@@ -86,16 +95,26 @@ pub extern "C" fn trial_plane_segments(
     if placed.len() < 4 {
         return REFUSED;
     }
+    if points.len() < 2 * (3 * n / 2) {
+        return REFUSED;
+    }
     if out.len() < 4 * (3 * n / 2) {
         return REFUSED;
     }
-    plane_segments(poly, n, placed, tol, out)
+    plane_segments(poly, n, placed, tol, points, out)
 }
 
-// The segments of n corners; up to four take the smaller scratch.
-fn plane_segments(poly: &[f64], n: usize, placed: &[f64], tol: f64, out: &mut [f64]) -> usize
-    requires { ⌜ (n ≤ 384) × (2 * n ≤ length (now poly)) × (4 ≤ length (now placed))
-        × (4 * atMost n ≤ length (now out)) ⌝ }
+// The segments of n corners.
+fn plane_segments(
+    poly: &[f64],
+    n: usize,
+    placed: &[f64],
+    tol: f64,
+    points: &mut [f64],
+    out: &mut [f64],
+) -> usize
+    requires { ⌜ (2 * n ≤ length (now poly)) × (4 ≤ length (now placed))
+        × (2 * atMost n ≤ length (now points)) × (4 * atMost n ≤ length (now out)) ⌝ }
     ensures { λ r. ⌜ Clips 2 n (now (poly .entry)) (now (placed .entry)) tol (now (out .entry)) r (now (out .exit)) ⌝ }
 {
     let cut = clip::plane::Cut {
@@ -103,10 +122,7 @@ fn plane_segments(poly: &[f64], n: usize, placed: &[f64], tol: f64, out: &mut [f
         normal: point2(placed, 1),
         tol: tol,
     };
-    if n <= 4 {
-        return clip::plane::section_small(poly, n, cut, out);
-    }
-    clip::plane::section_large(poly, n, cut, out)
+    clip::plane::plane_section_segments(poly, n, cut, points, out)
 }
 
 // What stitching gives, and whether the lengths fitted.

@@ -21,14 +21,26 @@ mul-if3-2 c = search needs
 returns-3 : tie.Need-returns-3
 returns-3 c = it-does-not-fit (λ f. omega arith) (refl, refl)
 
+mul-if4 : tie.Need-mul-if4
+mul-if4 c = search needs
+
+mul-if4-2 : tie.Need-mul-if4-2
+mul-if4-2 c = search needs
+
+returns-4 : tie.Need-returns-4
+returns-4 c = it-does-not-fit (λ f. omega arith) (refl, refl)
+
 space-segments-requires : tie.Need-space-segments-requires
 space-segments-requires c κs = search needs
 
 same-length : tie.Need-same-length
 same-length c = search needs
 
-returns-4 : tie.Need-returns-4
-returns-4 c = it-fits (omega arith, omega arith, omega arith) (c .before .before .space-segments .ensures)
+same-length-2 : tie.Need-same-length-2
+same-length-2 c = search needs
+
+returns-5 : tie.Need-returns-5
+returns-5 c = it-fits (omega arith, omega arith, omega arith, omega arith) (c .before .before .before .before .space-segments .ensures)
 
 pub trial-space-segments-spec : {M : Type 1} → statement M
 trial-space-segments-spec =
@@ -39,6 +51,10 @@ trial-space-segments-spec =
     mul-if3
     mul-if3-2
     returns-3
+    mul-if4
+    mul-if4-2
+    returns-4
     space-segments-requires
     same-length
-    returns-4)
+    same-length-2
+    returns-5)

@@ -1,33 +1,44 @@
 -- `clip::plane::clip_polygon` meets its contract. Assumes nothing.
 -- The invariant: the points kept, with those of the edges left, make the clipped points.
+use mathlib.Core.Path.{ap, sym, _∙_}
 use Prim.Native.Nat.{_-_}
 use native.Mathlib.Omega.{arith}
 use borrow.Author.Needs.{needs}
 use Rattle.vector.specs.View.{vec2}
 use Rattle.clip.proofs.Ring.{next-below}
-use Rattle.clip.proofs.Clipping.{Clipping, clipping-end, clipping-room, clipping-start, clipping-step}
+use Rattle.clip.proofs.Clipping.{Clipping, clipping-end, clipping-room, clipping-start, clipping-step, first-distance, next-distance}
+use Rattle.clip.specs.Clip.{signed}
 use Rattle.clip.specs.View.{cut2}
 use Rattle.clip.proofs.plane.clip_polygon.Statement.{statement}
 use Rattle.clip.proofs.plane.clip_polygon.Tie as tie
 
 abbrev Inv-loop : tie.InvT-loop
-Inv-loop poly n cut sign tol2 points₀ a₀ da₀ m₀ i₀ points a da m i =
+Inv-loop poly n cut sign tol2 points₀ at first a₀ da₀ m₀ i₀ points a da m i =
     Clipping 2 (cut2 cut) sign tol2 n poly points₀ i m points (vec2 a) da
 
 abbrev μ-loop : tie.MeasureT-loop
-μ-loop poly n cut sign tol2 points₀ a₀ da₀ m₀ i₀ points a da m i = n - i
+μ-loop poly n cut sign tol2 points₀ at first a₀ da₀ m₀ i₀ points a da m i = n - i
+
+sub-at : tie.Need-sub-at Inv-loop μ-loop
+sub-at c = omega arith
+
+mul-first : tie.Need-mul-first Inv-loop μ-loop
+mul-first c = omega arith
+
+slice-read-first : tie.Need-slice-read-first Inv-loop μ-loop
+slice-read-first c = omega arith
 
 point2-requires : tie.Need-point2-requires Inv-loop μ-loop
 point2-requires c κs = omega arith
 
-distance-requires : tie.Need-distance-requires Inv-loop μ-loop
-distance-requires c κs = search needs
-
 loop-holds : tie.Need-loop-holds Inv-loop μ-loop
 loop-holds c =
-    let g = c .before .before .before .before .args in
-    clipping-start 2 (cut2 (g .cut)) (g .sign) (g .tol2) (g .n) (g .poly .now) (g .points .now) (c .before .point2 .ensures)
-    (c .distance .ensures)
+    let start = c .before .before .before .before in
+    let g = start .args in
+    let k = cut2 (g .cut) in
+    clipping-start 2 k (g .sign) (g .tol2) (g .n) (g .poly .now) (g .points .now) (c .point2 .ensures)
+    (first-distance k 2 (g .n) (g .poly .now) (g .points .now) (g .sign) (start .pre .3) (start .pre .0)
+    ∙ ap (signed k (g .sign)) (sym (c .point2 .ensures)))
 
 next-of-requires : tie.Need-next-of-requires Inv-loop μ-loop
 next-of-requires c κs = omega arith
@@ -35,19 +46,32 @@ next-of-requires c κs = omega arith
 point2-requires-2 : tie.Need-point2-requires-2 Inv-loop μ-loop
 point2-requires-2 c κs = omega (arith, next-below (c .before .loop-test .taken) (c .next-of .ensures))
 
-distance-requires-2 : tie.Need-distance-requires-2 Inv-loop μ-loop
-distance-requires-2 c κs = search needs
+add-signed-at : tie.Need-add-signed-at Inv-loop μ-loop
+add-signed-at c = omega arith
+
+add-signed-at-2 : tie.Need-add-signed-at-2 Inv-loop μ-loop
+add-signed-at-2 c = omega arith
+
+signed-at-requires : tie.Need-signed-at-requires Inv-loop μ-loop
+signed-at-requires c κs = search needs
 
 clip-edge-requires : tie.Need-clip-edge-requires Inv-loop μ-loop
 clip-edge-requires c κs = search needs
 
 push-clip-requires : tie.Need-push-clip-requires Inv-loop μ-loop
 push-clip-requires c κs =
-    let h =
-    clipping-room (c .before .before .before .before .before .before .loop .inv)
-    (c .before .before .before .before .before .loop-test .taken) (c .before .before .before .before .next-of .ensures)
-    (c .before .before .before .point22 .ensures) (c .before .before .distance2 .ensures) (c .clip-edge .ensures) in
-    omega arith
+    let start = c .before .before .before .before .before .before .before .before .before .before .before .before in
+    let g = start .args in
+    let v = c .before .before .before .before .before .before .before .loop .inv in
+    let few = v .few in
+    let upper = c .before .before .before .before .before .before .loop-test .taken in
+    let db =
+    next-distance v (start .pre .3) upper (c .before .before .before .before .before .next-of .ensures) (c .before .before .before .before .point22 .ensures) (omega (arith, start .pre .2, start .pre .0))
+    (omega (arith, start .pre .2))
+    (first-distance (cut2 (g .cut)) 2 (g .n) (g .poly .now) (g .points .now) (g .sign) (start .pre .3) (start .pre .0))
+    (c .before .before .signed-at .ensures) in
+    let h = clipping-room v upper (c .before .before .before .before .before .next-of .ensures) (c .before .before .before .before .point22 .ensures) db (c .clip-edge .ensures) in
+    omega (arith, v .same-length, start .pre .2)
 
 add-i : tie.Need-add-i Inv-loop μ-loop
 add-i c = omega arith
@@ -57,12 +81,17 @@ loop-less c = omega arith
 
 loop-again : tie.Need-loop-again Inv-loop μ-loop
 loop-again c =
-    clipping-step (c .before .before .before .before .before .before .before .before .before .loop .inv)
-    (c .before .before .before .before .before .before .before .before .loop-test .taken)
-    (c .before .before .before .before .before .before .before .next-of .ensures)
-    (c .before .before .before .before .before .before .point22 .ensures)
-    (c .before .before .before .before .before .distance2 .ensures) (c .before .before .before .clip-edge .ensures)
-    (c .before .before .push-clip .ensures) (c .before .before .push-clip .kept .0)
+    let start = c .before .before .before .before .before .before .before .before .before .before .before .before .before .before .before in
+    let g = start .args in
+    let v = c .before .before .before .before .before .before .before .before .before .before .loop .inv in
+    let few = v .few in
+    let upper = c .before .before .before .before .before .before .before .before .before .loop-test .taken in
+    let db =
+    next-distance v (start .pre .3) upper (c .before .before .before .before .before .before .before .before .next-of .ensures) (c .before .before .before .before .before .before .before .point22 .ensures) (omega (arith, start .pre .2, start .pre .0))
+    (omega (arith, start .pre .2))
+    (first-distance (cut2 (g .cut)) 2 (g .n) (g .poly .now) (g .points .now) (g .sign) (start .pre .3) (start .pre .0))
+    (c .before .before .before .before .before .signed-at .ensures) in
+    clipping-step v upper (c .before .before .before .before .before .before .before .before .next-of .ensures) (c .before .before .before .before .before .before .before .point22 .ensures) db (c .before .before .before .clip-edge .ensures) (c .before .before .push-clip .ensures) (c .before .before .push-clip .kept .0)
 
 same-length : tie.Need-same-length Inv-loop μ-loop
 same-length c = c .before .loop .inv .same-length
@@ -76,12 +105,16 @@ clip-polygon-spec =
     (tie.spec
     Inv-loop
     μ-loop
+    sub-at
+    mul-first
+    slice-read-first
     point2-requires
-    distance-requires
     loop-holds
     next-of-requires
     point2-requires-2
-    distance-requires-2
+    add-signed-at
+    add-signed-at-2
+    signed-at-requires
     clip-edge-requires
     push-clip-requires
     add-i

@@ -1,21 +1,26 @@
 -- `clip::space::kept_side` meets its contract. Assumes nothing.
--- The invariant: no corner passed is above, and seen tells whether one is below.
+-- The invariant: the corners passed are counted, and their distances written.
+use mathlib.Core.Path.{refl}
 use Prim.Native.Nat.{_-_}
 use native.Mathlib.Omega.{arith}
 use borrow.Author.Needs.{needs}
-use Rattle.clip.proofs.KeptSide.{Looking, looking-below, looking-hit, looking-neither, looking-start, looking-step}
+use Rattle.clip.proofs.KeptSide.{Looking, looking-end, looking-start, looking-step}
 use Rattle.clip.specs.View.{cut3}
 use Rattle.clip.proofs.space.kept_side.Statement.{statement}
 use Rattle.clip.proofs.space.kept_side.Tie as tie
 
 abbrev Inv-loop : tie.InvT-loop
-Inv-loop poly n cut seen₀ i₀ seen i = Looking 3 n poly (cut3 cut) i seen
+Inv-loop poly n cut points₀ at above₀ below₀ i₀ points above below i =
+    Looking 3 n poly (cut3 cut) points₀ i above below points
 
 abbrev μ-loop : tie.MeasureT-loop
-μ-loop poly n cut seen₀ i₀ seen i = n - i
+μ-loop poly n cut points₀ at above₀ below₀ i₀ points above below i = n - i
+
+sub-at : tie.Need-sub-at Inv-loop μ-loop
+sub-at c = omega arith
 
 loop-holds : tie.Need-loop-holds Inv-loop μ-loop
-loop-holds c = let g = c .before .args in looking-start 3 (g .n) (g .poly .now) (cut3 (g .cut))
+loop-holds c = let g = c .before .before .args in looking-start 3 (g .n) (g .poly .now) (cut3 (g .cut)) (g .points .now)
 
 point3-requires : tie.Need-point3-requires Inv-loop μ-loop
 point3-requires c κs = omega arith
@@ -23,13 +28,20 @@ point3-requires c κs = omega arith
 distance-requires : tie.Need-distance-requires Inv-loop μ-loop
 distance-requires c κs = search needs
 
-returns : tie.Need-returns Inv-loop μ-loop
-returns c =
-    looking-hit (c .before .before .before .before .before .loop .inv) (c .before .before .before .before .loop-test .taken)
-    (c .before .before .before .point3 .ensures) (c .before .before .distance .ensures) (c .if1 .taken)
+add-points : tie.Need-add-points Inv-loop μ-loop
+add-points c = omega arith
 
-or-below-requires : tie.Need-or-below-requires Inv-loop μ-loop
-or-below-requires c κs = search needs
+mul-points : tie.Need-mul-points Inv-loop μ-loop
+mul-points c = omega (arith, c .before .before .before .loop .inv .same-length)
+
+slice-write-points : tie.Need-slice-write-points Inv-loop μ-loop
+slice-write-points c = omega (arith, c .before .before .before .loop .inv .same-length)
+
+counted-requires : tie.Need-counted-requires Inv-loop μ-loop
+counted-requires c κs = omega (arith, c .before .before .before .before .loop .inv .few-above, c .before .before .before .loop-test .taken)
+
+counted-requires-2 : tie.Need-counted-requires-2 Inv-loop μ-loop
+counted-requires-2 c κs = omega (arith, c .before .before .before .before .before .before .loop .inv .few-below, c .before .before .before .before .before .loop-test .taken)
 
 add-i : tie.Need-add-i Inv-loop μ-loop
 add-i c = omega arith
@@ -39,16 +51,17 @@ loop-less c = omega arith
 
 loop-again : tie.Need-loop-again Inv-loop μ-loop
 loop-again c =
-    looking-step (c .before .before .before .before .before .before .loop .inv)
-    (c .before .before .before .before .before .loop-test .taken) (c .before .before .before .before .point3 .ensures)
-    (c .before .before .before .distance .ensures)
-    (c .before .if1 .left) (c .or-below .ensures)
+    looking-step (c .before .before .before .before .before .before .before .loop .inv) (c .before .before .before .before .before .before .loop-test .taken) (c .before .before .before .before .before .point3 .ensures) (c .before .before .before .before .distance .ensures) (c .before .before .before .before .before .before .before .before .before .before .pre .2) refl
+    (c .before .before .counted .ensures) (c .counted2 .ensures)
 
-returns-2 : tie.Need-returns-2 Inv-loop μ-loop
-returns-2 c = looking-below (c .before .before .loop .inv) (c .before .loop-test .left) (c .if2 .taken)
+side-of-requires : tie.Need-side-of-requires Inv-loop μ-loop
+side-of-requires c κs = search needs
 
-returns-3 : tie.Need-returns-3 Inv-loop μ-loop
-returns-3 c = looking-neither (c .before .before .loop .inv) (c .before .loop-test .left) (c .if2 .left)
+same-length : tie.Need-same-length Inv-loop μ-loop
+same-length c = c .before .before .loop .inv .same-length
+
+returns : tie.Need-returns Inv-loop μ-loop
+returns c = looking-end (c .before .before .loop .inv) (c .before .loop-test .left) (c .before .before .before .before .before .pre .0) (c .side-of .ensures)
 
 pub kept-side-spec : {M : Type 1} → statement M
 kept-side-spec =
@@ -56,13 +69,18 @@ kept-side-spec =
     (tie.spec
     Inv-loop
     μ-loop
+    sub-at
     loop-holds
     point3-requires
     distance-requires
-    returns
-    or-below-requires
+    add-points
+    mul-points
+    slice-write-points
+    counted-requires
+    counted-requires-2
     add-i
     loop-less
     loop-again
-    returns-2
-    returns-3)
+    side-of-requires
+    same-length
+    returns)

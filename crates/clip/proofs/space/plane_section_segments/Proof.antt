@@ -1,78 +1,43 @@
 -- `clip::space::plane_section_segments` meets its contract. Assumes nothing.
-use mathlib.Core.Path.{refl}
-use lib.Ieee.{ofBits, neg}
+use lib.Ieee.{ofBits}
 use borrow.Author.Needs.{needs}
-use Rattle.clip.proofs.Section.{few-corners, no-segments, on-side}
-use Rattle.clip.specs.declared.Side.the-variants.{Above, Below, Neither}
+use Rattle.clip.proofs.Section.{few-corners, on-neither, on-side}
 use Rattle.clip.specs.View.{cut3}
 use Rattle.clip.proofs.space.plane_section_segments.Statement.{statement}
 use Rattle.clip.proofs.space.plane_section_segments.Tie as tie
 
 returns : tie.Need-returns
-returns c =
-    let g = c .before .before .before .before .args in few-corners 3 (cut3 (g .cut)) (g .n) (g .poly .now) (c .if1 .taken)
-    (g .out .now)
+returns c = let g = c .before .before .before .before .args in few-corners 3 (cut3 (g .cut)) (g .n) (g .poly .now) (c .if1 .taken) (g .out .now)
 
 kept-side-requires : tie.Need-kept-side-requires
 kept-side-requires c κs = search needs
 
-enum-told : tie.Need-enum-told
-enum-told c = search needs
-
-section-on-requires : tie.Need-section-on-requires
-section-on-requires c κs = search needs
-
-enum-told-2 : tie.Need-enum-told-2
-enum-told-2 c = search needs
-
-section-on-requires-2 : tie.Need-section-on-requires-2
-section-on-requires-2 c κs = search needs
-
-enum-told-3 : tie.Need-enum-told-3
-enum-told-3 c = search needs
+sign-requires : tie.Need-sign-requires
+sign-requires c κs = search needs
 
 same-length : tie.Need-same-length
 same-length c = search needs
 
-same-length-2 : tie.Need-same-length-2
-same-length-2 c = search needs
-
 returns-2 : tie.Need-returns-2
 unfolding ofBits
 returns-2 c =
-    let g =
-    c .before .before .before .before .before .before .before .before .before .before .before .before .before .before .args
-    in
-    on-side 3 (cut3 (g .cut)) (g .n) (g .poly .now) Above
-    (c .before .before .before .before .before .before .before .before .before .before .if1 .left)
-    (c .before .before .before .before .before .before .before .before .before .kept-side .ensures)
-    (c .before .before .before .before .before .before .before .enum-told .given .1)
-    (c .before .before .before .before .section-on .ensures)
+    let g = c .before .before .before .before .before .before .before .before .before .before .args in
+    on-neither 3 (cut3 (g .cut)) (g .n) (g .poly .now) (c .before .before .before .before .kept-side .ensures) (c .before .sign .ensures) (c .if2 .taken) (g .out .now)
+
+section-on-requires : tie.Need-section-on-requires
+section-on-requires c κs = search needs
+
+same-length-2 : tie.Need-same-length-2
+same-length-2 c = search needs
 
 same-length-3 : tie.Need-same-length-3
 same-length-3 c = search needs
 
-same-length-4 : tie.Need-same-length-4
-same-length-4 c = search needs
-
 returns-3 : tie.Need-returns-3
-unfolding ofBits neg
+unfolding ofBits
 returns-3 c =
-    let g =
-    c .before .before .before .before .before .before .before .before .before .before .before .before .before .before .args
-    in
-    on-side 3 (cut3 (g .cut)) (g .n) (g .poly .now) Below
-    (c .before .before .before .before .before .before .before .before .before .before .if1 .left)
-    (c .before .before .before .before .before .before .before .before .before .kept-side .ensures)
-    (c .before .before .before .before .before .before .before .enum-told2 .given .1)
-    (c .before .before .before .before .section-on2 .ensures)
-
-returns-4 : tie.Need-returns-4
-returns-4 c =
-    let g = c .before .before .before .before .before .before .before .args in
-    on-side 3 (cut3 (g .cut)) (g .n) (g .poly .now) Neither (c .before .before .before .if1 .left)
-    (c .before .before .kept-side .ensures) (c .enum-told3 .given .1)
-    (no-segments 3 (g .out .now) refl)
+    let g = c .before .before .before .before .before .before .before .before .before .before .before .before .before .before .before .before .before .args in
+    on-side 3 (cut3 (g .cut)) (g .n) (g .poly .now) (c .before .before .before .before .before .before .before .before .before .before .before .kept-side .ensures) (c .before .before .before .before .before .before .before .before .sign .ensures) (c .before .before .before .before .before .before .before .if2 .left) (c .before .before .before .before .section-on .ensures)
 
 pub plane-section-segments-spec : {M : Type 1} → statement M
 plane-section-segments-spec =
@@ -80,15 +45,10 @@ plane-section-segments-spec =
     (tie.spec
     returns
     kept-side-requires
-    enum-told
-    section-on-requires
-    enum-told-2
-    section-on-requires-2
-    enum-told-3
+    sign-requires
     same-length
-    same-length-2
     returns-2
+    section-on-requires
+    same-length-2
     same-length-3
-    same-length-4
-    returns-3
-    returns-4)
+    returns-3)
