@@ -1,12 +1,167 @@
-// Cicelybeam for C and Rust: thin functions over the proved crates.
+// Cicelybeam for C and Rust: thin functions over the proved entries. A slice passes as a pointer and a length.
 ghost use mathlib.Core.Path.{_≡_};
+ghost use Prim.Native.Nat.{_<_};
 ghost use lib.Ieee.{binary64};
+ghost use lib.ListN.{length};
 ghost use Rattle.root.specs.Root.{sqrtOf};
+ghost use Rattle.section.specs.Outcome.{Gave, toldTolerance};
+ghost use Rattle.section.specs.Entries.{planeCut, stitchAlone, toleranceOf};
+ghost use Rattle.section.specs.Claims.{Small};
+ghost use Rattle.section.specs.Code.{counted, meaning, toleranceMeaning};
+ghost use Rattle.cicelybeam.specs.Exports.{toldIn, toldToleranceIn};
 
-// double cicelybeam_sqrt(double): the square root as IEEE 754 has it.
+// struct cicelybeam_section: refusal 0, how many points, nodes and loops were written, and the four counts of edges; or the
+// number of a refusal, and 0 for all else. C's `open` is `opened` here, since `open` is a reserved word.
+#[repr(C)]
+pub struct Section {
+    pub refusal: u32,
+    pub points: u32,
+    pub nodes: u32,
+    pub loops: u32,
+    pub listed: u32,
+    pub in_loops: u32,
+    pub flat: u32,
+    pub opened: u32,
+}
+
+// struct cicelybeam_tolerance: refusal 0 and the tolerance, or the number of a refusal and 0.
+#[repr(C)]
+pub struct Tolerance {
+    pub refusal: u32,
+    pub value: f64,
+}
+
+// A space cell cut by a plane.
+#[no_mangle]
+pub extern "C" fn cicelybeam_plane(
+    kind: u8,
+    conn: &[u64],
+    coords: &[f64],
+    origin: &[f64],
+    normal: &[f64],
+    tol: f64,
+    numbers: &mut [f64],
+    nodes: &mut [u32],
+    ends: &mut [u32],
+) -> Section
+    ensures { λ r. ⌜ Gave
+        (planeCut kind (now (conn .entry)) (now (coords .entry)) (now (origin .entry)) (now (normal .entry)) tol
+        (length (now (numbers .entry))) (length (now (nodes .entry))) (length (now (ends .entry))))
+        (toldIn r) (now (numbers .entry)) (now (numbers .exit)) (now (nodes .entry)) (now (nodes .exit))
+        (now (ends .entry)) (now (ends .exit)) ⌝ }
+{
+    told_section(section::section_cell_by_plane(
+        kind,
+        conn,
+        coords,
+        origin,
+        normal,
+        tol,
+        numbers,
+        nodes,
+        ends,
+    ))
+}
+
+// Stitching alone.
+#[no_mangle]
+pub extern "C" fn cicelybeam_stitch(
+    segments: &[f64],
+    tol: f64,
+    numbers: &mut [f64],
+    nodes: &mut [u32],
+    ends: &mut [u32],
+) -> Section
+    ensures { λ r. ⌜ Gave
+        (stitchAlone (now (segments .entry)) tol (length (now (numbers .entry))) (length (now (nodes .entry)))
+        (length (now (ends .entry))))
+        (toldIn r) (now (numbers .entry)) (now (numbers .exit)) (now (nodes .entry)) (now (nodes .exit))
+        (now (ends .entry)) (now (ends .exit)) ⌝ }
+{
+    told_section(section::stitch_alone(segments, tol, numbers, nodes, ends))
+}
+
+// The tolerance of a mesh in space, by its coordinates.
+#[no_mangle]
+pub extern "C" fn cicelybeam_tolerance_in_space(coords: &[f64]) -> Tolerance
+    ensures { λ r. ⌜ toldToleranceIn r ≡ toldTolerance (toleranceOf 3 (now (coords .entry))) ⌝ }
+{
+    told_tolerance(section::tolerance_in_space(coords))
+}
+
+// The tolerance of a mesh in the plane.
+#[no_mangle]
+pub extern "C" fn cicelybeam_tolerance_in_plane(coords: &[f64]) -> Tolerance
+    ensures { λ r. ⌜ toldToleranceIn r ≡ toldTolerance (toleranceOf 2 (now (coords .entry))) ⌝ }
+{
+    told_tolerance(section::tolerance_in_plane(coords))
+}
+
+// The square root as IEEE 754 has it.
 #[no_mangle]
 pub extern "C" fn cicelybeam_sqrt(x: f64) -> f64
     ensures { λ r. ⌜ r ≡ sqrtOf binary64 x ⌝ }
 {
     root::sqrt(x)
+}
+
+// An answer as a C struct.
+fn told_section(answer: section::Section) -> Section
+    requires { ⌜ Small (meaning answer) ⌝ }
+    ensures { λ r. ⌜ toldIn r ≡ meaning answer ⌝ }
+{
+    match answer {
+        section::Section::Refused(k) => Section {
+            refusal: k as u32,
+            points: 0,
+            nodes: 0,
+            loops: 0,
+            listed: 0,
+            in_loops: 0,
+            flat: 0,
+            opened: 0,
+        },
+        section::Section::Cut(s) => counted(s),
+    }
+}
+
+// A section's numbers in 32 bits.
+fn counted(s: stitch::Stitched) -> Section
+    requires { ⌜ Small (counted s) ⌝ }
+    ensures { λ r. ⌜ toldIn r ≡ counted s ⌝ }
+{
+    Section {
+        refusal: 0,
+        points: narrow(s.points),
+        nodes: narrow(s.nodes),
+        loops: narrow(s.loops),
+        listed: narrow(s.listed),
+        in_loops: narrow(s.in_loops),
+        flat: narrow(s.flat),
+        opened: narrow(s.opened),
+    }
+}
+
+// A tolerance as a C struct.
+fn told_tolerance(answer: section::Tolerance) -> Tolerance
+    ensures { λ r. ⌜ toldToleranceIn r ≡ toleranceMeaning answer ⌝ }
+{
+    match answer {
+        section::Tolerance::Refused(k) => Tolerance {
+            refusal: k as u32,
+            value: 0.0,
+        },
+        section::Tolerance::Of(x) => Tolerance {
+            refusal: 0,
+            value: x,
+        },
+    }
+}
+
+// A small number in 32 bits.
+fn narrow(x: usize) -> u32
+    requires { ⌜ x < 4294967296 ⌝ }
+    ensures { λ r. ⌜ r ≡ x ⌝ }
+{
+    x as u32
 }

@@ -13,7 +13,7 @@ use Rattle.vector.specs.Rows.{noSeg, put, row, rows, seg, segs}
 use Rattle.vector.proofs.Rows.{drop-later, rows-length, segs-getD, segs-length, segs-put, segs-rest}
 use Rattle.clip.specs.Clip.{Cut, planeSectionSegments}
 use Rattle.clip.specs.Cell.{atMost, cellSegments, faceSegments, facesFrom, projectSeg}
-use Rattle.clip.specs.Code.{Rising, Segments}
+use Rattle.clip.specs.Code.{Fit, Segments}
 use Rattle.clip.proofs.Bound.{section-bound}
 
 -- i of the k segments of ps, w numbers an end, stand in zs after the m that xs has
@@ -65,41 +65,47 @@ projecting-end {f} {w} {k} {ps} {m} {xs} {i} {zs} v h =
     let e : i ≡ k = omega (arith, v .within) in
     rw (take-all k all (omega arith)) at (rw e at (v .listed))
 
--- ---- the loop over the faces: i of them are passed, s corners and k segments; m corners there are in all
-pub record Gathering (c : Cut) (f : Frame) (w m : ℕ) (es : List ℕ) (ps xs : List Float) (i s k : ℕ) (zs : List Float) : Type 0 where
+-- ---- the loop over the faces: i of them are passed, s corners and k segments; m corners there are in all, and room for p and q numbers a face
+pub record Gathering (c : Cut) (f : Frame) (w m p q : ℕ) (es : List ℕ) (ps xs : List Float) (i s k : ℕ) (zs : List Float) : Type 0 where
   pub total : cellSegments c f (facesFrom w 0 es ps) ≡ segs 2 k zs ++ cellSegments c f (facesFrom w s (drop i es) ps)
   pub rest : drop (2 * (2 * k)) zs ≡ drop (2 * (2 * k)) xs
   pub same-length : length zs ≡ length xs
   pub few : k ≤ atMost s
-  pub rising : Rising s (drop i es) m
+  pub fit : Fit s (drop i es) m p q
 
-pub gathering-start : (c : Cut) (f : Frame) (w m : ℕ) (es : List ℕ) (ps xs : List Float) → Rising 0 es m
-    → Gathering c f w m es ps xs 0 0 0 xs
-gathering-start c f w m es ps xs h = record { total = refl; rest = refl; same-length = refl; few = omega arith; rising = h }
+pub gathering-start : (c : Cut) (f : Frame) (w m p q : ℕ) (es : List ℕ) (ps xs : List Float) → Fit 0 es m p q
+    → Gathering c f w m p q es ps xs 0 0 0 xs
+gathering-start c f w m p q es ps xs h = record { total = refl; rest = refl; same-length = refl; few = omega arith; fit = h }
 
-rising-most : (s : ℕ) (es : List ℕ) (m : ℕ) → Rising s es m → s ≤ m
-rising-most s [] m h = h
-rising-most s (e ∷ es) m h = omega (arith, h .0, rising-most e es m (h .1))
+fit-most : (s : ℕ) (es : List ℕ) (m p q : ℕ) → Fit s es m p q → s ≤ m
+fit-most s [] m p q h = h
+fit-most s (e ∷ es) m p q h = omega (arith, h .0, fit-most e es m p q (h .3))
 
-module _ {c : Cut} {f : Frame} {w m : ℕ} {es : List ℕ} {ps xs : List Float} {i s k : ℕ} {zs : List Float}
-    (v : Gathering c f w m es ps xs i s k zs) (h : i < length es) where
+module _ {c : Cut} {f : Frame} {w m p q : ℕ} {es : List ℕ} {ps xs : List Float} {i s k : ℕ} {zs : List Float}
+    (v : Gathering c f w m p q es ps xs i s k zs) (h : i < length es) where
   next : drop i es ≡ getD es i 0 ∷ drop (i + 1) es
   next = rw (add-one, drop-cons es i 0 h)
 
-  rises : Rising s (getD es i 0 ∷ drop (i + 1) es) m
-  rises = rw next at (v .rising)
+  fits : Fit s (getD es i 0 ∷ drop (i + 1) es) m p q
+  fits = rw next at (v .fit)
 
-  -- what a face needs: the next end is s or more, and m or less
+  -- what a face needs: the next end is s or more, and m or less, and there is room
   pub face-from : s ≤ getD es i 0
-  face-from = rises .0
+  face-from = fits .0
 
   pub face-to : getD es i 0 ≤ m
-  face-to = rising-most (getD es i 0) (drop (i + 1) es) m (rises .1)
+  face-to = fit-most (getD es i 0) (drop (i + 1) es) m p q (fits .3)
+
+  pub face-points : 3 * atMost (getD es i 0 - s) ≤ p
+  face-points = fits .1
+
+  pub face-space : 6 * atMost (getD es i 0 - s) ≤ q
+  face-space = fits .2
 
   -- the face's corners as they are lent: all numbers from a on
   pub gathering-step : {a r : ℕ} {ys : List Float} → a ≡ w * s
       → Segments 2 zs (segs 2 k zs ++ faceSegments c f (rows w (getD es i 0 - s) (take (length ps - a) (drop a ps)))) r ys
-      → length ys ≡ length zs → Gathering c f w m es ps xs (i + 1) (getD es i 0) r ys
+      → length ys ≡ length zs → Gathering c f w m p q es ps xs (i + 1) (getD es i 0) r ys
   gathering-step {a} {r} {ys} ea g l =
       let e = getD es i 0 in
       let lent : take (length ps - a) (drop a ps) ≡ drop (w * s) ps =
@@ -111,16 +117,16 @@ module _ {c : Cut} {f : Frame} {w m : ℕ} {es : List ℕ} {ps xs : List Float} 
       sym (segs-length 2 r ys) ∙ ap length got ∙ length-append (segs 2 k zs) (faceSegments c f qs) ∙ rw (segs-length 2 k zs) in
       let b = section-bound c qs in
       let o = length-map (planeSectionSegments c qs) (projectSeg f) in
-      let p = rows-length w (e - s) (drop (w * s) ps) in
+      let count = rows-length w (e - s) (drop (w * s) ps) in
       record {
         total = v .total ∙ rw next (sym (append-assoc (segs 2 k zs) (faceSegments c f qs) later) ∙ rw (← got));
         rest = g .rest ∙ drop-later zs xs (2 * (2 * k)) (2 * (2 * r)) (omega arith) (v .rest);
         same-length = l ∙ v .same-length;
         few = omega (arith, face-from, v .few);
-        rising = rises .1;
+        fit = fits .3;
       }
 
-pub gathering-end : {c : Cut} {f : Frame} {w m : ℕ} {es : List ℕ} {ps xs : List Float} {i s k : ℕ} {zs : List Float}
-    → Gathering c f w m es ps xs i s k zs → length es ≤ i → Segments 2 xs (cellSegments c f (facesFrom w 0 es ps)) k zs
-gathering-end {c} {f} {w} {m} {es} {ps} {xs} {i} {s} {k} {zs} v h =
+pub gathering-end : {c : Cut} {f : Frame} {w m p q : ℕ} {es : List ℕ} {ps xs : List Float} {i s k : ℕ} {zs : List Float}
+    → Gathering c f w m p q es ps xs i s k zs → length es ≤ i → Segments 2 xs (cellSegments c f (facesFrom w 0 es ps)) k zs
+gathering-end {c} {f} {w} {m} {p} {q} {es} {ps} {xs} {i} {s} {k} {zs} v h =
     record { are = sym (v .total ∙ rw (drop-of-length-le es {i = i} h) (append-nil (segs 2 k zs))); rest = v .rest }

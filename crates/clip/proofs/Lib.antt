@@ -1,4 +1,6 @@
+pub mod Signs
 pub mod Bound
+pub mod Clear
 pub mod Ring
 pub mod KeptSide
 pub mod Clipping

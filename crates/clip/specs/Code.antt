@@ -2,12 +2,13 @@
 use mathlib.Core.Path.{_≡_}
 use mathlib.Core.List.{List, [], _∷_}
 use mathlib.Core.Bool.{cond}
-use Prim.Native.Nat.{ℕ, _+_, _*_, _≤_}
+use Prim.Native.Nat.{ℕ, _+_, _-_, _*_, _≤_}
 use lib.Dec.{ltb}
 use lib.Ieee.{Float}
 use lib.ListN.{drop}
 use Rattle.vector.specs.Vector.{Vector}
 use Rattle.vector.specs.Rows.{Seg, rows, segs}
+use Rattle.clip.specs.Cell.{atMost}
 
 -- the place after i in a ring of n
 abbrev pub nextOf : ℕ → ℕ → ℕ
@@ -23,7 +24,8 @@ pub record Segments (w : ℕ) (xs : List Float) (k : List Seg) (r : ℕ) (zs : L
   pub are : segs w r zs ≡ k
   pub rest : drop (w * (2 * r)) zs ≡ drop (w * (2 * r)) xs
 
--- running totals from s on: none is below the one before it, or above m
-abbrev pub Rising : ℕ → List ℕ → ℕ → Type 0
-Rising s [] m = s ≤ m
-Rising s (e ∷ es) m = (s ≤ e) × Rising e es m
+-- The faces whose ends are running totals from s on: no end is below the one before it, or above m, and each face has room for
+-- its clipped points in p numbers and for its segments in space in q numbers.
+abbrev pub Fit : ℕ → List ℕ → ℕ → ℕ → ℕ → Type 0
+Fit s [] m p q = s ≤ m
+Fit s (e ∷ es) m p q = (s ≤ e) × (3 * atMost (e - s) ≤ p) × (6 * atMost (e - s) ≤ q) × Fit e es m p q

@@ -1,4 +1,5 @@
 pub mod Clip
 pub mod Cell
+pub mod Clear
 pub mod Code
 pub mod View

@@ -1,8 +1,9 @@
 // The section of a polygon by a plane in space (`space`) or by a line in the plane (`plane`): the same functions at two widths.
 ghost use mathlib.Core.Path.{_≡_};
-ghost use mathlib.Core.Bool.{_&&_, _||_};
+ghost use mathlib.Core.Bool.{not, _&&_, _||_};
 ghost use Prim.Native.Nat.{_<_};
-ghost use lib.Ieee.{le, lt, neg};
+ghost use lib.Ieee.{binary64, le, lt, mul, neg};
+ghost use Rattle.vector.specs.Number.{abs};
 ghost use Rattle.clip.specs.Clip.{ratio};
 ghost use Rattle.clip.specs.Code.{nextOf};
 
@@ -50,6 +51,16 @@ fn or_below(seen: bool, d: f64, tol: f64) -> bool
         return true;
     }
     d < -tol
+}
+
+// Whether a corner at the distance d is clear of the cut on the side of this sign: not within tol, and inside.
+fn is_clear(d: f64, sign: f64, tol: f64) -> bool
+    ensures { λ r. ⌜ r ≡ not (le (abs d) tol) && le (neg tol) (mul binary64 sign d) ⌝ }
+{
+    if absolute(d) <= tol {
+        return false;
+    }
+    sign * d >= -tol
 }
 
 // The place after i in a ring of n.

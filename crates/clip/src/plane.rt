@@ -1,5 +1,6 @@
 // Polygons in the plane, cut by a line: the functions of `space`, one width less.
 ghost use mathlib.Core.Path.{_≡_};
+ghost use mathlib.Core.Bool.{true};
 ghost use mathlib.Core.List.{[]};
 ghost use Prim.Native.Nat.{_+_, _*_, _<_, _≤_};
 ghost use lib.ListN.{length};
@@ -8,10 +9,12 @@ ghost use Rattle.vector.specs.View.{vec2};
 ghost use Rattle.clip.specs.Clip.{alike, clipEdge, clipSides, duplicate, edges, keptSide, liesOn, planeIntersection};
 ghost use Rattle.clip.specs.Clip.{planeSectionSegments, pushAll, pushSegment, pushSegments, pushUnique, sectionOn, withoutClosing};
 ghost use Rattle.clip.specs.Cell.{atMost};
+ghost use Rattle.clip.specs.Clear.{Clear, Each};
 ghost use Rattle.clip.specs.Code.{Points, Segments};
 ghost use Rattle.clip.specs.View.{cut2, points2};
 use crate::Side;
 use crate::both_at_most;
+use crate::is_clear;
 use crate::next_of;
 use crate::or_below;
 use crate::ratio;
@@ -117,6 +120,9 @@ fn section_on(
     ensures { λ r. ⌜ Segments 2 (now (out .entry)) (sectionOn (cut2 cut) sign (rows 2 n (now (poly .entry)))) r
         (now (out .exit)) ⌝ }
 {
+    if all_clear(poly, n, cut, sign) {
+        return 0;
+    }
     let tol2 = cut.tol * cut.tol;
     let clipped = clip_polygon(poly, n, cut, sign, tol2, points);
     let m = without_closing(points, clipped, tol2);
@@ -124,6 +130,22 @@ fn section_on(
         return 0;
     }
     segments(points, m, cut, tol2, out)
+}
+
+// Whether every corner is clear of the cut on the side of this sign. No segment is there then.
+fn all_clear(poly: &[f64], n: usize, cut: Cut, sign: f64) -> bool
+    requires { ⌜ 2 * n ≤ length (now poly) ⌝ }
+    ensures { λ r. ⌜ (r ≡ true → Each (Clear (cut2 cut) sign) (rows 2 n (now (poly .entry)))) ⌝ }
+{
+    let mut i = 0;
+    while i < n {
+        let d = point2(poly, i).distance(cut.origin, cut.normal);
+        if !is_clear(d, sign, cut.tol) {
+            return false;
+        }
+        i += 1;
+    }
+    true
 }
 
 // The clipped points of the polygon, written to points. Gives how many there are.

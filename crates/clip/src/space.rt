@@ -1,5 +1,6 @@
 // Polygons in space, cut by a plane.
 ghost use mathlib.Core.Path.{_≡_};
+ghost use mathlib.Core.Bool.{true};
 ghost use mathlib.Core.List.{[], _++_, map};
 ghost use Prim.Native.Nat.{_+_, _*_, _<_, _≤_};
 ghost use lib.ListN.{length};
@@ -8,10 +9,12 @@ ghost use Rattle.vector.specs.View.{frameOf, vec3};
 ghost use Rattle.clip.specs.Clip.{alike, clipEdge, clipSides, duplicate, edges, keptSide, liesOn, planeIntersection};
 ghost use Rattle.clip.specs.Clip.{planeSectionSegments, pushAll, pushSegment, pushSegments, pushUnique, sectionOn, withoutClosing};
 ghost use Rattle.clip.specs.Cell.{atMost, cellSegments, cutBy, faceSegments, facesOf, projectSeg};
-ghost use Rattle.clip.specs.Code.{Points, Rising, Segments};
+ghost use Rattle.clip.specs.Clear.{Clear, Each};
+ghost use Rattle.clip.specs.Code.{Fit, Points, Segments};
 ghost use Rattle.clip.specs.View.{cut3, points3};
 use crate::Side;
 use crate::both_at_most;
+use crate::is_clear;
 use crate::next_of;
 use crate::or_below;
 use crate::ratio;
@@ -37,8 +40,8 @@ pub enum Clip {
 }
 
 // A cell of m corners in all, which stand in coords face by face; ends are running totals. Its segments, in the
-// plane's own coordinates, written to out. Gives how many there are. What the scratch `points` and `space` hold
-// afterwards is not said.
+// plane's own coordinates, written to out. Gives how many there are. The scratch `points` and `space` has room for
+// one face at a time, and what it holds afterwards is not said.
 pub fn cell_segments(
     coords: &[f64],
     ends: &[usize],
@@ -49,8 +52,8 @@ pub fn cell_segments(
     space: &mut [f64],
     out: &mut [f64],
 ) -> usize
-    requires { ⌜ Rising 0 (now ends) m × (3 * m ≤ length (now coords)) × (3 * atMost m ≤ length (now points))
-        × (6 * atMost m ≤ length (now space)) × (4 * atMost m ≤ length (now out)) ⌝ }
+    requires { ⌜ Fit 0 (now ends) m (length (now points)) (length (now space)) × (3 * m ≤ length (now coords))
+        × (4 * atMost m ≤ length (now out)) ⌝ }
     ensures { λ r. ⌜ Segments 2 (now (out .entry))
         (cellSegments (cutBy (frameOf plane) tol) (frameOf plane) (facesOf 3 (now (ends .entry)) (now (coords .entry))))
         r (now (out .exit)) ⌝ }
@@ -198,6 +201,9 @@ fn section_on(
     ensures { λ r. ⌜ Segments 3 (now (out .entry)) (sectionOn (cut3 cut) sign (rows 3 n (now (poly .entry)))) r
         (now (out .exit)) ⌝ }
 {
+    if all_clear(poly, n, cut, sign) {
+        return 0;
+    }
     let tol2 = cut.tol * cut.tol;
     let clipped = clip_polygon(poly, n, cut, sign, tol2, points);
     let m = without_closing(points, clipped, tol2);
@@ -205,6 +211,22 @@ fn section_on(
         return 0;
     }
     segments(points, m, cut, tol2, out)
+}
+
+// Whether every corner is clear of the cut on the side of this sign. No segment is there then.
+fn all_clear(poly: &[f64], n: usize, cut: Cut, sign: f64) -> bool
+    requires { ⌜ 3 * n ≤ length (now poly) ⌝ }
+    ensures { λ r. ⌜ (r ≡ true → Each (Clear (cut3 cut) sign) (rows 3 n (now (poly .entry)))) ⌝ }
+{
+    let mut i = 0;
+    while i < n {
+        let d = point3(poly, i).distance(cut.origin, cut.normal);
+        if !is_clear(d, sign, cut.tol) {
+            return false;
+        }
+        i += 1;
+    }
+    true
 }
 
 // The clipped points of the polygon, written to points. Gives how many there are.

@@ -4,3 +4,4 @@ pub mod Seam
 pub mod Segments
 pub mod Reading
 pub mod Claims
+pub mod Table

@@ -14,11 +14,11 @@ use Rattle.cell.specs.declared.Reading.{Reading}
 use Rattle.cell.specs.declared.Reading.the-variants.{Refused, Cell}
 use Rattle.cell.proofs.Lists.{length-ends}
 use Rattle.clip.specs.Cell.{facesOf}
-use Rattle.clip.specs.Code.{Rising}
+use Rattle.clip.specs.Code.{Fit}
 use Rattle.section.specs.Outcome.{andThen, refused as no}
 use Rattle.section.specs.Entries.{polygonsOf, cutPolygons, planeCut}
-use Rattle.section.specs.Code.{Faces, Scratch}
-use Rattle.section.proofs.Seam.{corners-most, seam-rising, seam-taken}
+use Rattle.section.specs.Code.{Faces, Scratch, faceMost}
+use Rattle.section.proofs.Seam.{corners-most, face-most, seam-fit, seam-taken}
 
 -- a cell that was read: its polygons, and what the answer says of them
 pub record IsCell (o : Read) (m f : ℕ) : Type 0 where
@@ -43,7 +43,7 @@ module _ {o : Read} {r : Reading} {out out′ : List Float} {ends ends′ : List
   pub was-cell : {m f : ℕ} → r ≡ Cell m f → IsCell o m f
   was-cell {m} {f} e = cell-only o m f (ap meaning (sym e) ∙ h .gave .answer)
 
-most-256 : (t : ℕ) → spaceMost t ≤ 256
+pub most-256 : (t : ℕ) → spaceMost t ≤ 256
 most-256 t = either (eqb t 18)
   where
     either : (b : Bool) → cond b 256 24 ≤ 256
@@ -90,29 +90,23 @@ module _ (t : ℕ) (c : List ℕ) (xs : List Float) {r : Reading} {coords coords
       let l : length stops′ ≡ length es + length (drop (length es) stops) = ap length ends-are ∙ length-append es (drop (length es) stops) in
       omega (arith, cell .faces, length-ends 0 (cell .polygons))
 
-  rising : Rising 0 (take f stops′) m
-  rising =
-      let ps = cell .polygons in
-      let e : take f stops′ ≡ take (length ps) (over (endsFrom 0 ps) stops) = ap (λ k. take k stops′) (cell .faces) ∙ ap (take (length ps)) ends-are in
-      subst (λ k. Rising 0 (take f stops′) k) (sym (cell .corners))
-      (subst (λ l. Rising 0 l (length (flatten ps))) (sym e) (seam-rising ps stops))
-
   pub ready : {points space segments : List Float} → Scratch t stops coords points space segments → length coords′ ≡ length coords
       → Faces m (take f stops′) coords′ points space segments
-  ready h l =
-      let n : length (flatten (cell .polygons)) ≤ spaceMost t = corners-most t c xs (cell .polygons) (cell .is) in
+  ready {points} {space} h l =
+      let ps = cell .polygons in
+      let n : length (flatten ps) ≤ spaceMost t = corners-most t c xs ps (cell .is) in
+      let e : take f stops′ ≡ take (length ps) (over (endsFrom 0 ps) stops) = ap (λ k. take k stops′) (cell .faces) ∙ ap (take (length ps)) ends-are in
       let k = cell .corners in
       let b = most-256 t in
       let x = h .for-corners in
-      let p = h .for-points in
-      let q = h .for-space in
       let z = h .for-segments in
       record {
         few = omega arith;
-        rising = rising;
+        fit =
+            subst (λ i. Fit 0 (take f stops′) i (length points) (length space)) (sym k)
+            (subst (λ l. Fit 0 l (length (flatten ps)) (length points) (length space)) (sym e)
+            (seam-fit (faceMost t) (length points) (length space) ps stops (face-most t c xs ps (cell .is)) (h .for-points) (h .for-space)));
         for-corners = omega arith;
-        for-points = omega arith;
-        for-space = omega arith;
         for-segments = omega arith;
       }
 

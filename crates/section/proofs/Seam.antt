@@ -2,10 +2,11 @@
 -- Assumes nothing.
 use mathlib.Core.Path.{_≡_, refl, sym, ap, _∙_, subst}
 use mathlib.Core.List.{List, [], _∷_, _++_, append-assoc, append-nil, map, flatten}
-use mathlib.Core.Bool.{Bool, true, false}
+use mathlib.Core.Bool.{Bool, true, false, cond}
 use Prim.Native.Nat.{ℕ, zero, suc, _+_, _-_, _*_, _/_, _%_, _≤_, _<_}
 use native.Mathlib.Omega.{arith}
 use native.Mathlib.Nat.{mul-suc, mul-zero, zero-add}
+use borrow.Author.Tests.{eqb-false}
 use lib.Dec.{T, eqb, ltb, ltb→lt}
 use lib.Ieee.{Float}
 use lib.Ieee.Fits.{and-l, and-r}
@@ -26,9 +27,10 @@ use Rattle.cell.specs.declared.InPlane.the-variants as p
 use Rattle.cell.proofs.Lists.{flatten-map, length-ends}
 use Rattle.cell.proofs.Gathering.{row-length}
 use Rattle.cell.proofs.Bounds.{refused-unread, space-bounded, space-number, plane-room, accepted}
-use Rattle.clip.specs.Cell.{facesFrom, facesOf}
-use Rattle.clip.specs.Code.{Rising}
+use Rattle.clip.specs.Cell.{atMost, facesFrom, facesOf}
+use Rattle.clip.specs.Code.{Fit}
 use Rattle.stitch.specs.Claim.{All}
+use Rattle.section.specs.Code.{faceMost}
 
 -- ---- a property of everything in a list
 
@@ -142,22 +144,6 @@ module _ (t : ℕ) (c : List ℕ) (xs : List Float) (ps : List Polygon) (e : spa
       → facesOf 3 (take (length ps) (over (endsFrom 0 ps) ends)) (over (flatten (flatten ps)) out) ≡ ps
   seam-taken out ends = ap (λ l. facesOf 3 l (over (flatten (flatten ps)) out)) (ends-taken ps ends) ∙ seam out
 
--- ---- the ends are running totals
-
-rising-from : {A : Type 0} (k : ℕ) (ps : List (List A)) → Rising k (endsFrom k ps) (k + length (flatten ps))
-unfolding flatten endsFrom
-rising-from k [] = omega arith
-rising-from k (p ∷ ps) =
-    let e : k + length p + length (flatten ps) ≡ k + length (p ++ flatten ps) = omega (arith, length-append p (flatten ps)) in
-    (omega arith, subst (Rising (k + length p) (endsFrom (k + length p) ps)) e (rising-from (k + length p) ps))
-
-pub rising-ends : {A : Type 0} (ps : List (List A)) → Rising 0 (endsFrom 0 ps) (length (flatten ps))
-rising-ends ps = subst (Rising 0 (endsFrom 0 ps)) (zero-add (length (flatten ps))) (rising-from 0 ps)
-
-pub seam-rising : {A : Type 0} (ps : List (List A)) (ends : List ℕ)
-    → Rising 0 (take (length ps) (over (endsFrom 0 ps) ends)) (length (flatten ps))
-seam-rising ps ends = subst (λ l. Rising 0 l (length (flatten ps))) (sym (ends-taken ps ends)) (rising-ends ps)
-
 -- ---- how large the polygons are
 
 -- every polygon has at most n corners
@@ -205,10 +191,7 @@ module _ (t : ℕ) (c : List ℕ) (xs : List Float) (ps : List Polygon) where
           let n : t ≡ spaceNumber k = space-number t k e in
           rw n (most-of k (length (flatten ps)) (space-bounded t k c xs ps e r .corners))
 
-  pub faces-most : spaceCell t c xs ≡ read ps → Small (spaceMost t) ps
-  faces-most r = small-in-all (spaceMost t) ps (corners-most r)
-
-  pub faces-small : (t ≡ 18 → ⊥) → spaceCell t c xs ≡ read ps → Small 4 ps
+  faces-small : (t ≡ 18 → ⊥) → spaceCell t c xs ≡ read ps → Small 4 ps
   faces-small h r = by-type (spaceType t) refl
     where
       by-type : (o : S.InSpace) → spaceType t ≡ o → Small 4 ps
@@ -217,6 +200,36 @@ module _ (t : ℕ) (c : List ℕ) (xs : List Float) (ps : List Polygon) where
           let n : t ≡ spaceNumber k = space-number t k e in
           let a = accepted 3 (spaceKind (spaceType t)) (spaceNodes k) (facesIn (shapeOf k)) c xs ps (ap spaceKind e) r in
           subst (Small 4) (sym (a .1)) (faces-four c xs k (λ q. h (n ∙ q)))
+
+  -- one face
+  pub face-most : spaceCell t c xs ≡ read ps → Small (faceMost t) ps
+  face-most r = by-test (eqb t 18) refl
+    where
+      by-test : (b : Bool) → eqb t 18 ≡ b → Small (cond b 256 4) ps
+      by-test true e =
+          small-in-all 256 ps (let n = corners-most r in let m : spaceMost t ≡ 256 = rw e in omega arith)
+      by-test false e = faces-small (eqb-false t 18 e) r
+
+-- ---- the faces that were read fit their scratch
+
+-- each in p and q numbers, if none has more than n corners
+fit-from : (n p q k : ℕ) (ps : List Polygon) → Small n ps → 3 * atMost n ≤ p → 6 * atMost n ≤ q
+    → Fit k (endsFrom k ps) (k + length (flatten ps)) p q
+unfolding flatten endsFrom
+fit-from n p q k [] h x y = omega arith
+fit-from n p q k (f ∷ ps) h x y =
+    let e : k + length f + length (flatten ps) ≡ k + length (f ++ flatten ps) = omega (arith, length-append f (flatten ps)) in (
+      omega arith,
+      omega (arith, h .0),
+      omega (arith, h .0),
+      subst (λ m. Fit (k + length f) (endsFrom (k + length f) ps) m p q) e (fit-from n p q (k + length f) ps (h .1) x y),
+    )
+
+pub seam-fit : (n p q : ℕ) (ps : List Polygon) (ends : List ℕ) → Small n ps → 3 * atMost n ≤ p → 6 * atMost n ≤ q
+    → Fit 0 (take (length ps) (over (endsFrom 0 ps) ends)) (length (flatten ps)) p q
+seam-fit n p q ps ends h x y =
+    subst (λ l. Fit 0 l (length (flatten ps)) p q) (sym (ends-taken ps ends))
+    (subst (λ m. Fit 0 (endsFrom 0 ps) m p q) (zero-add (length (flatten ps))) (fit-from n p q 0 ps h x y))
 
 -- ---- the one polygon of a cell in the plane
 

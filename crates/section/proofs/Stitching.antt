@@ -10,25 +10,25 @@ use Rattle.vector.specs.Rows.{Seg, rows}
 use Rattle.vector.proofs.Rows.{rows-length, segs-length}
 use Rattle.clip.specs.Clip.{Cut}
 use Rattle.clip.specs.Cell.{atMost, cellSegments, corners, facesFrom, facesOf}
-use Rattle.clip.specs.Code.{Rising, Segments}
+use Rattle.clip.specs.Code.{Fit, Segments}
 use Rattle.clip.proofs.Bound.{cell-bound}
 use Rattle.stitch.specs.Code.{Lent}
 use Rattle.section.specs.Code.{Faces, Roomy}
 
--- faces that end at rising totals up to m have at most m corners
-corners-most : (w s : ℕ) (es : List ℕ) (m : ℕ) (xs : List Float) → Rising s es m → s + corners (facesFrom w s es xs) ≤ m
-corners-most w s [] m xs h = omega arith
-corners-most w s (e ∷ es) m xs h =
+-- faces that end at running totals up to m have at most m corners
+corners-most : (w s : ℕ) (es : List ℕ) (m p q : ℕ) (xs : List Float) → Fit s es m p q → s + corners (facesFrom w s es xs) ≤ m
+corners-most w s [] m p q xs h = omega arith
+corners-most w s (e ∷ es) m p q xs h =
     let n = rows-length w (e - s) (drop (w * s) xs) in
-    omega (arith, h .0, corners-most w e es m xs (h .1))
+    omega (arith, h .0, corners-most w e es m p q xs (h .3))
 
 -- so they give at most floor(3m / 2) segments
-pub few-segments : (c : Cut) (f : Frame) (stops : List ℕ) (coords : List Float) (m : ℕ) → Rising 0 stops m
+pub few-segments : (c : Cut) (f : Frame) (stops : List ℕ) (coords : List Float) (m p q : ℕ) → Fit 0 stops m p q
     → length (cellSegments c f (facesOf 3 stops coords)) ≤ atMost m
-few-segments c f stops coords m h =
+few-segments c f stops coords m p q h =
     let b : length (cellSegments c f (facesOf 3 stops coords)) ≤ atMost (corners (facesOf 3 stops coords)) =
     cell-bound c f (facesOf 3 stops coords) in
-    let k : 0 + corners (facesOf 3 stops coords) ≤ m = corners-most 3 0 stops m coords h in
+    let k : 0 + corners (facesOf 3 stops coords) ≤ m = corners-most 3 0 stops m p q coords h in
     omega arith
 
 -- which fit stitching

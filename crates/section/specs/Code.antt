@@ -10,7 +10,7 @@ use Rattle.vector.specs.View.{frameOf}
 use Rattle.vector.specs.Vector.{Frame}
 use Rattle.cell.specs.Read.{spaceMost, facesMost}
 use Rattle.clip.specs.Cell.{atMost}
-use Rattle.clip.specs.Code.{Rising}
+use Rattle.clip.specs.Code.{Fit}
 use Rattle.stitch.specs.declared.Stitched.{Stitched}
 use Rattle.section.specs.Outcome.{Outcome, refused, found, Told, toldRefused, ToldTolerance}
 use Rattle.section.specs.declared.Section as S
@@ -55,10 +55,8 @@ placing (p.On f) = found (frameOf f)
 -- segments of a face, and the segments of the cell
 pub record Faces (m : ℕ) (stops : List ℕ) (coords points space segments : List Float) : Type 0 where
   pub few : m ≤ 256
-  pub rising : Rising 0 stops m
+  pub fit : Fit 0 stops m (length points) (length space)
   pub for-corners : 3 * m ≤ length coords
-  pub for-points : 3 * atMost m ≤ length points
-  pub for-space : 6 * atMost m ≤ length space
   pub for-segments : 4 * atMost m ≤ length segments
 
 -- buffers that hold the section of m corners
@@ -67,10 +65,14 @@ pub record Roomy (m : ℕ) (numbers : List Float) (nodes ends : List ℕ) : Type
   pub for-nodes : 3 * m / 2 ≤ length nodes
   pub for-ends : m / 2 ≤ length ends
 
--- room for a cell of type number t
+-- the most corners of a face that a type number's cells have
+abbrev pub faceMost : ℕ → ℕ
+faceMost t = cond (eqb t 18) 256 4
+
+-- room for a cell of type number t, and for one of its faces
 pub record Scratch (t : ℕ) (stops : List ℕ) (coords points space segments : List Float) : Type 0 where
   pub for-ends : facesMost t ≤ length stops
   pub for-corners : 3 * spaceMost t ≤ length coords
-  pub for-points : 3 * atMost (spaceMost t) ≤ length points
-  pub for-space : 6 * atMost (spaceMost t) ≤ length space
+  pub for-points : 3 * atMost (faceMost t) ≤ length points
+  pub for-space : 6 * atMost (faceMost t) ≤ length space
   pub for-segments : 4 * atMost (spaceMost t) ≤ length segments

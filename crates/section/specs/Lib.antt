@@ -2,3 +2,4 @@ pub mod Outcome
 pub mod Entries
 pub mod Code
 pub mod Claims
+pub mod Table

@@ -7,7 +7,8 @@ use lib.Dec.{leb}
 use lib.ListN.{length}
 use lib.Ieee.{Float}
 use Rattle.vector.specs.Number.{f0}
-use Rattle.vector.specs.Rows.{Seg, seg, over, endsFrom}
+use Rattle.vector.specs.Vector.{Vector}
+use Rattle.vector.specs.Rows.{Seg, seg, rows, over, endsFrom}
 use Rattle.stitch.specs.Stitch.{Answer}
 
 -- document 01's number of a refusal, or what was asked for
@@ -78,11 +79,18 @@ abbrev pub endsOf : Outcome Answer → List ℕ
 endsOf (refused k) = []
 endsOf (found a) = endsFrom 0 (a .loops)
 
+-- the points; a refusal has none
+abbrev pub pointsOf : Outcome Answer → List Vector
+pointsOf (refused k) = []
+pointsOf (found a) = a .points
+
 -- The whole contract of an entry that lends three buffers, for every input: what is told, and what each buffer holds afterwards. What is
 -- written stands at its start, and the remainder is as it was; with a refusal that is all of it.
 pub record Gave (o : Outcome Answer) (r : Told) (numbers numbers′ : List Float) (nodes nodes′ ends ends′ : List ℕ) : Type 0 where
   pub told-is : r ≡ told o
   pub numbers-are : numbers′ ≡ over (numbersOf o) numbers
+  -- and the points are those numbers by twos
+  pub points-are : rows 2 (r .points) numbers′ ≡ pointsOf o
   pub nodes-are : nodes′ ≡ over (nodesOf o) nodes
   pub ends-are : ends′ ≡ over (endsOf o) ends
 

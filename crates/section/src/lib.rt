@@ -140,7 +140,7 @@ fn section_phed(
     )
 }
 
-// The same for every other type: at most 24 face corners.
+// The plane cut of every other type: at most 24 face corners, four to a face.
 fn section_fixed(
     t: u8,
     conn: &[u64],
@@ -161,8 +161,8 @@ fn section_fixed(
 {
     let mut coords = [0.0f64; 72];
     let mut stops = [0usize; 6];
-    let mut points = [0.0f64; 108];
-    let mut space = [0.0f64; 216];
+    let mut points = [0.0f64; 18];
+    let mut space = [0.0f64; 36];
     let mut segments = [0.0f64; 144];
     section_within(
         t,

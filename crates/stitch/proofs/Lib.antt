@@ -16,4 +16,3 @@ pub mod Ending
 pub mod Turns
 pub mod Stitching
 pub mod Welded
-pub mod Worked

@@ -56,7 +56,7 @@ cut-ends n (l ∷ ls) tail =
           (n + length l) ls tail,
     )
 
-read-back : (a : Answer) (r : Stitched) (numbers numbers′ : List Float) (nodes nodes′ ends ends′ : List ℕ)
+pub read-back : (a : Answer) (r : Stitched) (numbers numbers′ : List Float) (nodes nodes′ ends ends′ : List ℕ)
     → Gave a r numbers numbers′ nodes nodes′ ends ends′ → answerIn r numbers′ nodes′ ends′ ≡ a
 read-back a r numbers numbers′ nodes nodes′ ends ends′ g =
     let m : length (endsFrom 0 (a .loops)) ≡ r .loops = ends-length 0 (a .loops) ∙ sym (g .loop-count) in
@@ -75,15 +75,15 @@ claimed t ss r numbers numbers′ nodes nodes′ ends ends′ g =
 
 module _ (t : Float) (ss : List Float) (s : ℕ) (zs₀ : List Float) (n m : ℕ) (zs : List Float) (xs ys nodes ends : List ℕ)
     (w : Welds t ss s zs₀ n m zs xs ys) (lent : Lent s ss zs₀ nodes ends) (kept : length zs ≡ length zs₀)
-    (x-room : length xs ≡ 384) (y-room : length ys ≡ 384) where
+    (same : length xs ≡ length ys) (room : s ≤ length xs) where
   few : m ≤ 384
   few = omega (arith, w .few-edges, lent .few)
 
   pub first-count : m ≡ length (take m xs)
-  first-count = let a = few in sym (length-take-le m xs (omega arith))
+  first-count = sym (length-take-le m xs (omega (arith, w .few-edges)))
 
   pub second-count : m ≡ length (take m ys)
-  second-count = let a = few in sym (length-take-le m ys (omega arith))
+  second-count = sym (length-take-le m ys (omega (arith, w .few-edges)))
 
   pub mark-count : (us : List Bool) → us ≡ replicate 384 false → m ≡ length (take m us)
   mark-count us e = let a = few in sym (ap length (fresh-part 384 m us e a) ∙ length-replicate m false)
@@ -106,9 +106,9 @@ module _ (t : Float) (ss : List Float) (s : ℕ) (zs₀ : List Float) (n m : ℕ
   exact = edges-exact w
 
   edge-count : length (listedEdges t (segs 2 s ss)) ≡ m
-  edge-count = edges-counted w (x-room ∙ sym y-room) (omega (arith, lent .few))
+  edge-count = edges-counted w same room
 
-  pub welded-spare : (walked : List ℕ) → length walked ≡ 385 → Spare (edgesOf (take m xs) (take m ys)) walked nodes ends
+  pub welded-spare : (walked : List ℕ) → s < length walked → Spare (edgesOf (take m xs) (take m ys)) walked nodes ends
   welded-spare walked l =
       let c = edge-count in
       let d = w .few-edges in

@@ -4,7 +4,7 @@ use mathlib.Core.List.{List, [], _∷_, flatten}
 use mathlib.Core.Bool.{Bool, true, false, cond}
 use Prim.Native.Nat.{ℕ, suc, _+_, _*_, _-_, _/_, _≤_, _<_}
 use lib.Dec.{ltb}
-use lib.ListN.{length, getD, set, take, drop}
+use lib.ListN.{length, getD, replicate, set, take, drop}
 use lib.Seq.{paste}
 use lib.Ieee.{Float, lt}
 use Rattle.vector.specs.Vector.{Vector, diff, norm}
@@ -165,6 +165,16 @@ pub record Lent (s : ℕ) (segments numbers : List Float) (nodes ends : List ℕ
   pub for-points : 4 * s ≤ length numbers
   pub for-nodes : s ≤ length nodes
   pub for-ends : s / 3 ≤ length ends
+
+-- the tables that s segments need: edges by their two ends, marks for all 384 places, the nodes of a walk, and the last edge of each point
+pub record Tables (s : ℕ) (smaller larger : List ℕ) (used : List Bool) (walked last : List ℕ) : Type 0 where
+  pub same : length smaller ≡ length larger
+  pub for-edges : s ≤ length smaller
+  pub unmarked : used ≡ replicate 384 false
+  -- an open walk of all edges has one node more
+  pub for-walk : s < length walked
+  pub for-lasts : 2 * s ≤ length last
+  pub zeros : last ≡ replicate (length last) 0
 
 -- An answer has been given: its points, the nodes of its loops and their ends are written over the start of the buffers, whose
 -- remainder is as before, and its counts are returned.

@@ -14,7 +14,7 @@ ghost use Rattle.weld.specs.Code.{edgesOf};
 ghost use Rattle.stitch.specs.Walk.{clamp, cosineTo, nextEdge, pointAt, straightest, walkFrom, walks};
 ghost use Rattle.stitch.specs.Stitch.{cross2, kindOf, signedArea, turned};
 ghost use Rattle.stitch.specs.Code.{Arrived, Below, Counting, Ends, Finished, Finishing, FirstFrom, Lent};
-ghost use Rattle.stitch.specs.Code.{Lasts, Past, Ready, Spare, Stitches, Turn, Went, Wrote};
+ghost use Rattle.stitch.specs.Code.{Lasts, Past, Ready, Spare, Stitches, Tables, Turn, Went, Wrote};
 ghost use Rattle.stitch.specs.Code.{ahead, better, cosineFor, edgesIn};
 use vector::Vec2;
 
@@ -45,10 +45,30 @@ pub fn stitch_segments(
     ensures { λ r. ⌜ Stitches (mul binary64 tol tol) (segs 2 s (now (segments .entry))) r (now (points .entry))
         (now (points .exit)) (now (nodes .entry)) (now (nodes .exit)) (now (ends .entry)) (now (ends .exit)) ⌝ }
 {
-    let mut smaller = [0u32; 384];
-    let mut larger = [0u32; 384];
+    if s <= 36 {
+        return stitch_few(segments, s, tol, points, nodes, ends);
+    }
+    stitch_many(segments, s, tol, points, nodes, ends)
+}
+
+// Stitches at most 36 segments, as many as a tetrahedron, a wedge or a brick can give.
+fn stitch_few(
+    segments: &[f64],
+    s: usize,
+    tol: f64,
+    points: &mut [f64],
+    nodes: &mut [u32],
+    ends: &mut [u32],
+) -> Stitched
+    requires { ⌜ Lent s (now segments) (now points) (now nodes) (now ends) × (s ≤ 36) ⌝ }
+    ensures { λ r. ⌜ Stitches (mul binary64 tol tol) (segs 2 s (now (segments .entry))) r (now (points .entry))
+        (now (points .exit)) (now (nodes .entry)) (now (nodes .exit)) (now (ends .entry)) (now (ends .exit)) ⌝ }
+{
+    let mut smaller = [0u32; 36];
+    let mut larger = [0u32; 36];
     let mut used = [false; 384];
-    let mut walked = [0u32; 385];
+    let mut walked = [0u32; 37];
+    let mut last = [0u16; 72];
     stitch_within(
         segments,
         s,
@@ -60,6 +80,40 @@ pub fn stitch_segments(
         &mut larger,
         &mut used,
         &mut walked,
+        &mut last,
+    )
+}
+
+// Stitches at most 384 segments.
+fn stitch_many(
+    segments: &[f64],
+    s: usize,
+    tol: f64,
+    points: &mut [f64],
+    nodes: &mut [u32],
+    ends: &mut [u32],
+) -> Stitched
+    requires { ⌜ Lent s (now segments) (now points) (now nodes) (now ends) ⌝ }
+    ensures { λ r. ⌜ Stitches (mul binary64 tol tol) (segs 2 s (now (segments .entry))) r (now (points .entry))
+        (now (points .exit)) (now (nodes .entry)) (now (nodes .exit)) (now (ends .entry)) (now (ends .exit)) ⌝ }
+{
+    let mut smaller = [0u32; 384];
+    let mut larger = [0u32; 384];
+    let mut used = [false; 384];
+    let mut walked = [0u32; 385];
+    let mut last = [0u16; 768];
+    stitch_within(
+        segments,
+        s,
+        tol * tol,
+        points,
+        nodes,
+        ends,
+        &mut smaller,
+        &mut larger,
+        &mut used,
+        &mut walked,
+        &mut last,
     )
 }
 
@@ -75,9 +129,10 @@ fn stitch_within(
     larger: &mut [u32],
     used: &mut [bool],
     walked: &mut [u32],
+    last: &mut [u16],
 ) -> Stitched
-    requires { ⌜ Lent s (now segments) (now points) (now nodes) (now ends) × (length (now smaller) ≡ 384)
-        × (length (now larger) ≡ 384) × (now used ≡ replicate 384 false) × (length (now walked) ≡ 385) ⌝ }
+    requires { ⌜ Lent s (now segments) (now points) (now nodes) (now ends)
+        × Tables s (now smaller) (now larger) (now used) (now walked) (now last) ⌝ }
     ensures { λ r. ⌜ Stitches tol2 (segs 2 s (now (segments .entry))) r (now (points .entry)) (now (points .exit))
         (now (nodes .entry)) (now (nodes .exit)) (now (ends .entry)) (now (ends .exit)) ⌝ }
 {
@@ -93,6 +148,7 @@ fn stitch_within(
         tol2,
         nodes,
         ends,
+        last,
     );
     Stitched {
         points: w.points,
@@ -125,16 +181,17 @@ fn stitch_edges(
     tol2: f64,
     nodes: &mut [u32],
     ends: &mut [u32],
+    last: &mut [u16],
 ) -> Tally
     requires { ⌜ Ready n (now points) (now smaller) (now larger) (now used)
         × Spare (edgesOf (now smaller) (now larger)) (now walked) (now nodes) (now ends)
-        × (now used ≡ replicate (length (now smaller)) false) × (n ≤ 768) ⌝ }
+        × (now used ≡ replicate (length (now smaller)) false) × (n ≤ length (now last))
+        × (now last ≡ replicate (length (now last)) 0) ⌝ }
     ensures { λ r. ⌜ Wrote (rows 2 n (now (points .entry))) tol2 (length (now (smaller .entry)))
         (walks (rows 2 n (now (points .entry))) (edgesOf (now (smaller .entry)) (now (larger .entry)))) r
         (now (nodes .entry)) (now (nodes .exit)) (now (ends .entry)) (now (ends .exit)) ⌝ }
 {
-    let mut last = [0u16; 768];
-    last_edges(smaller, larger, &mut last);
+    last_edges(smaller, larger, last);
     let mut t = Tally {
         nodes: 0,
         loops: 0,
@@ -153,7 +210,7 @@ fn stitch_edges(
             tol2,
             nodes,
             ends,
-            &last,
+            last,
             k,
             t,
         );

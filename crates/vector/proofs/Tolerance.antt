@@ -14,7 +14,7 @@ use Rattle.vector.specs.Number.{f0, abs}
 use Rattle.vector.specs.Tolerance.{column, extent, fine, greater, greatestFrom, magnitude, small, Sound, spread, tolerance}
 
 -- a number or infinity with a plus sign
-abbrev plusSigned : Float → Bool
+abbrev pub plusSigned : Float → Bool
 plusSigned nan = false
 plusSigned (inf s) = not s
 plusSigned (fin s m e) = not s
@@ -33,7 +33,7 @@ units-plus f q k = by-test (ltb (q * 2 ^ k) (2 ^ (low f + suc (emax f))))
     by-test true = odd-plus (suc (prec f)) q k (low f)
     by-test false = tt
 
-round-plus : (f : Format) (a b : ℕ) → T (plusSigned (round f false a b))
+pub round-plus : (f : Format) (a b : ℕ) → T (plusSigned (round f false a b))
 unfolding round
 round-plus f a b = units-plus f _ _
 

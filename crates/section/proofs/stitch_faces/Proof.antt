@@ -1,4 +1,5 @@
 -- `stitch_faces` meets its contract. Assumes nothing.
+use lib.ListN.{length}
 use Rattle.vector.specs.View.{frameOf}
 use Rattle.clip.specs.Cell.{cutBy}
 use Rattle.section.proofs.Stitching.{few-segments, lent}
@@ -19,7 +20,7 @@ stitch-segments-requires c κs =
     let g = s .args in
     let f = frameOf (g .plane) in
     lent (s .pre .0) (s .pre .1) (c .before .before .before .before .before .before .before .before .before .before .cell-segments .ensures)
-    (few-segments (cutBy f (g .tol)) f (g .stops .now) (g .coords .now) (g .m) (s .pre .0 .rising)) (search needs)
+    (few-segments (cutBy f (g .tol)) f (g .stops .now) (g .coords .now) (g .m) (length (g .points .now)) (length (g .space .now)) (s .pre .0 .fit)) (search needs)
 
 same-length : tie.Need-same-length
 same-length c = search needs

@@ -1,5 +1,4 @@
 -- `stitch::stitch_edges` meets its contract. Assumes nothing.
-use mathlib.Core.Path.{refl}
 use Prim.Native.Nat.{_-_}
 use borrow.Author.Needs.{needs}
 use Rattle.weld.proofs.Lists.{edges-length}
@@ -16,36 +15,28 @@ Inv-loop points n smaller larger used₀ walked₀ tol2 nodes₀ ends₀ last t�
 abbrev μ-loop : tie.MeasureT-loop
 μ-loop points n smaller larger used₀ walked₀ tol2 nodes₀ ends₀ last t₀ k₀ used walked nodes ends t k = length smaller - k
 
-slice-aggregate-last-edges : tie.Need-slice-aggregate-last-edges Inv-loop μ-loop
-slice-aggregate-last-edges c = search needs
-
 last-edges-requires : tie.Need-last-edges-requires Inv-loop μ-loop
 last-edges-requires c κs =
-    let s = c .before .before .before .before .before .before .before .before in
+    let s = c .before .before .before .before .before .before .before .before .before in
     let m = edges-length (s .args .smaller .now) (s .args .larger .now) (s .pre .0 .ends .same) in (
       s .pre .0 .ends .same,
       omega (arith, s .pre .1 .few),
       λ k h. let w = s .pre .0 .ends .within k h in omega (arith, s .pre .3),
       λ k h. let w = s .pre .0 .ends .within k (omega (arith, s .pre .0 .ends .same)) in omega (arith, s .pre .3),
-      refl,
+      s .pre .4,
     )
 
 loop-holds : tie.Need-loop-holds Inv-loop μ-loop
 loop-holds c =
-    let s = c .before .before .before .before .before .before .before .before .before .before in
+    let s = c .before .before .before .before .before .before .before .before .before .before .before .before in
     let g = s .args in
     looping-start (g .n) (g .points .now) (g .smaller .now) (g .larger .now) (g .tol2) (g .used .now) (g .walked .now) (g .nodes .now)
     (g .ends .now)
     (s .pre .0 .ends .same) (s .pre .2)
 
-slice-aggregate-stitch-from : tie.Need-slice-aggregate-stitch-from Inv-loop μ-loop
-slice-aggregate-stitch-from c = search needs
-
 stitch-from-requires : tie.Need-stitch-from-requires Inv-loop μ-loop
 stitch-from-requires c κs =
-    let s =
-    c .before .before .before .before .before .before .before .before .before .before .before .before .before .before .before .before
-    .before in
+    let s = c .before .before .before .before .before .before .before .before .before .before .before .before .before .before .before .before .before .before .before in
     let g = s .args in
     let l = c .before .before .before .before .before .before .loop in (
       looping-ready (g .n) (g .points .now) (g .smaller .now) (g .larger .now) (g .tol2) (g .used .now) (g .walked .now) (g .nodes .now)
@@ -56,15 +47,13 @@ stitch-from-requires c κs =
           (l .used) (l .walked) (l .nodes) (l .ends) (l .t) (l .k) (l .inv) (s .pre .0) (s .pre .1),
       c .before .before .before .before .before .loop-test .taken,
       l .inv .so-far .counting,
-      omega (arith, s .pre .3, c .before .before .before .before .before .before .before .before .last-edges .kept .1 .1 .0),
-      c .before .before .before .before .before .before .before .before .last-edges .ensures,
+      omega (arith, s .pre .3, c .before .before .before .before .before .before .before .before .before .last-edges .kept .1 .1 .0),
+      c .before .before .before .before .before .before .before .before .before .last-edges .ensures,
     )
 
 add-k : tie.Need-add-k Inv-loop μ-loop
 add-k c =
-    let s =
-    c .before .before .before .before .before .before .before .before .before .before .before .before .before .before .before .before
-    .before .before .before .before .before .before .before .before .before .before in
+    let s = c .before .before .before .before .before .before .before .before .before .before .before .before .before .before .before .before .before .before .before .before .before .before .before .before .before .before .before .before in
     omega (
       arith,
       c .before .before .before .before .before .before .before .before .before .before .before .before .before .before .loop-test .taken,
@@ -82,9 +71,7 @@ loop-less c =
 
 loop-again : tie.Need-loop-again Inv-loop μ-loop
 loop-again c =
-    let s =
-    c .before .before .before .before .before .before .before .before .before .before .before .before .before .before .before .before
-    .before .before .before .before .before .before .before .before .before .before in
+    let s = c .before .before .before .before .before .before .before .before .before .before .before .before .before .before .before .before .before .before .before .before .before .before .before .before .before .before .before .before in
     let g = s .args in
     let l =
     c .before .before .before .before .before .before .before .before .before .before .before .before .before .before .before .loop in
@@ -108,9 +95,12 @@ same-length-3 c = c .before .loop .inv .nodes-length
 same-length-4 : tie.Need-same-length-4 Inv-loop μ-loop
 same-length-4 c = c .before .loop .inv .ends-length′
 
+same-length-5 : tie.Need-same-length-5 Inv-loop μ-loop
+same-length-5 c = search needs
+
 returns : tie.Need-returns Inv-loop μ-loop
 returns c =
-    let s = c .before .before .before .before .before .before .before .before .before .before .before .before in
+    let s = c .before .before .before .before .before .before .before .before .before .before .before .before .before .before in
     let g = s .args in
     let l = c .before .loop in
     looping-end (g .n) (g .points .now) (g .smaller .now) (g .larger .now) (g .tol2) (g .used .now) (g .walked .now) (g .nodes .now)
@@ -123,10 +113,8 @@ stitch-edges-spec =
     (tie.spec
     Inv-loop
     μ-loop
-    slice-aggregate-last-edges
     last-edges-requires
     loop-holds
-    slice-aggregate-stitch-from
     stitch-from-requires
     add-k
     loop-less
@@ -135,4 +123,5 @@ stitch-edges-spec =
     same-length-2
     same-length-3
     same-length-4
+    same-length-5
     returns)

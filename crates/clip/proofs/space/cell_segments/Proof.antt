@@ -7,13 +7,13 @@ use lib.ListN.{length, length-drop, length-take}
 use borrow.Author.Needs.{needs}
 use Rattle.vector.specs.View.{frameOf}
 use Rattle.clip.specs.Cell.{cutBy}
-use Rattle.clip.proofs.Faces.{Gathering, face-from, face-to, gathering-end, gathering-start, gathering-step}
+use Rattle.clip.proofs.Faces.{Gathering, face-from, face-points, face-space, face-to, gathering-end, gathering-start, gathering-step}
 use Rattle.clip.proofs.space.cell_segments.Statement.{statement}
 use Rattle.clip.proofs.space.cell_segments.Tie as tie
 
 abbrev Inv-loop : tie.InvT-loop
 Inv-loop coords ends m plane tol points₀ space₀ out₀ k₀ s₀ i₀ points space out k s i =
-    Gathering (cutBy (frameOf plane) tol) (frameOf plane) 3 m ends coords out₀ i s k out
+    Gathering (cutBy (frameOf plane) tol) (frameOf plane) 3 m (length points₀) (length space₀) ends coords out₀ i s k out
     × (length points ≡ length points₀) × (length space ≡ length space₀)
 
 abbrev μ-loop : tie.MeasureT-loop
@@ -24,7 +24,7 @@ loop-holds c =
     let start = c .before .before .before .before .before in
     let g = start .args in
     let f = frameOf (g .plane) in
-    (gathering-start (cutBy f (g .tol)) f 3 (g .m) (g .ends .now) (g .coords .now) (g .out .now) (start .pre .0), refl, refl)
+    (gathering-start (cutBy f (g .tol)) f 3 (g .m) (length (g .points .now)) (length (g .space .now)) (g .ends .now) (g .coords .now) (g .out .now) (start .pre .0), refl, refl)
 
 mul-e : tie.Need-mul-e Inv-loop μ-loop
 mul-e c = search needs
@@ -89,15 +89,16 @@ sub-face-segments-2 c =
 face-segments-requires : tie.Need-face-segments-requires Inv-loop μ-loop
 face-segments-requires c κs =
     let v = c .before .before .before .before .before .before .loop .inv in
-    let lower = face-from (v .0) (c .before .before .before .before .before .loop-test .taken) in
-    let upper = face-to (v .0) (c .before .before .before .before .before .loop-test .taken) in
+    let h = c .before .before .before .before .before .loop-test .taken in
+    let lower = face-from (v .0) h in
+    let upper = face-to (v .0) h in
     let few = v .0 .few in
     let same = v .0 .same-length in
     let pre = c .before .before .before .before .before .before .before .before .before .before .before .before .pre in (
       simp (length-take, length-drop) (omega (arith, pre .1)),
-      omega (arith, pre .2, v .1),
-      omega (arith, pre .3, v .2),
-      omega (arith, pre .4),
+      omega (arith, face-points (v .0) h, v .1),
+      omega (arith, face-space (v .0) h, v .2),
+      omega (arith, pre .2),
     )
 
 add-i : tie.Need-add-i Inv-loop μ-loop

@@ -1,0 +1,44 @@
+-- `cicelybeam_stitch` meets its contract. Assumes nothing.
+use lib.ListN.{length}
+use Rattle.section.proofs.Claims.{sections-small}
+use Rattle.cicelybeam.proofs.Exports.{retold, told-small}
+use borrow.Author.Needs.{needs}
+use Rattle.cicelybeam.proofs.cicelybeam_stitch.Statement.{statement}
+use Rattle.cicelybeam.proofs.cicelybeam_stitch.Tie as tie
+use Rattle.cicelybeam.proofs.cicelybeam_stitch.Reads as reads
+use Rattle.cicelybeam.proofs.cicelybeam_stitch.Lts as lts
+use Rattle.cicelybeam.proofs.told_section.Reads as told-section-reads
+use Rattle.section.proofs.stitch_alone.Reads as stitch-alone-reads
+
+stitch-alone-requires : tie.Need-stitch-alone-requires
+stitch-alone-requires c κs = search needs
+
+told-section-requires : tie.Need-told-section-requires
+told-section-requires c κs =
+    let g = c .before .before .before .before .before .before .before .before .before .before .before .before .before .before .args in
+    told-small (c .before .before .before .before .before .before .stitch-alone .ensures)
+    (sections-small .1 (g .segments .now) (g .tol) (length (g .numbers .now)) (length (g .nodes .now)) (length (g .ends .now)))
+
+same-length : tie.Need-same-length
+same-length c = search needs
+
+same-length-2 : tie.Need-same-length-2
+same-length-2 c = search needs
+
+same-length-3 : tie.Need-same-length-3
+same-length-3 c = search needs
+
+returns : tie.Need-returns
+returns c =
+    retold (c .before .before .before .before .before .before .before .stitch-alone .ensures) (c .told-section .ensures)
+
+pub cicelybeam-stitch-spec : {M : Type 1} → statement M
+cicelybeam-stitch-spec =
+    tie.close
+    (tie.spec
+    stitch-alone-requires
+    told-section-requires
+    same-length
+    same-length-2
+    same-length-3
+    returns)

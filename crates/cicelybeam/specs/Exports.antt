@@ -1,0 +1,21 @@
+-- What the structs of the exports tell. Definitions only.
+use Rattle.section.specs.Outcome.{Told, ToldTolerance}
+use Rattle.cicelybeam.specs.declared.Section.{Section}
+use Rattle.cicelybeam.specs.declared.Tolerance.{Tolerance}
+
+-- a section's numbers, as document 01 has them
+abbrev pub toldIn : Section → Told
+toldIn r =
+    record {
+      refusal = r .refusal;
+      points = r .points;
+      nodes = r .nodes;
+      loops = r .loops;
+      listed = r .listed;
+      inLoops = r .«in_loops»;
+      flat = r .flat;
+      opened = r .opened;
+    }
+
+abbrev pub toldToleranceIn : Tolerance → ToldTolerance
+toldToleranceIn r = record { refusal = r .refusal; value = r .value }

@@ -1,0 +1,186 @@
+-- A face clear of the cut has no segment: each clipped point is then a corner, and no segment has an end that is not within tol.
+-- Assumes nothing.
+use mathlib.Core.Path.{_≡_, refl, ap, sym, _∙_}
+use mathlib.Core.List.{List, [], _∷_, _++_}
+use mathlib.Core.Bool.{Bool, true, false, not, cond, _&&_, _||_, false≢true}
+use Prim.Native.Nat.{ℕ, zero, suc, _+_, _-_, _≤_, _<_}
+use native.Mathlib.Numerals.{add-one}
+use native.Mathlib.Omega.{arith}
+use lib.Dec.{ltb}
+use lib.Ieee.{Float, binary64, mul, lt, le, neg}
+use lib.ListN.{length, getD, take, drop, drop-of-length-le}
+use lib.Seq.{drop-cons}
+use Rattle.vector.specs.Number.{f0, f1, minusOne, abs}
+use Rattle.vector.specs.Vector.{Vector, dist2}
+use Rattle.vector.specs.Rows.{Seg, seg, row, rows}
+use Rattle.vector.proofs.Rows.{rows-getD, rows-length}
+use Rattle.clip.specs.declared.Side.{Side}
+use Rattle.clip.specs.declared.Side.the-variants.{Above, Below, Neither}
+use Rattle.clip.specs.Clip.{Cut, anyAbove, anyBelow, away, bySide, clipSides, clipped, duplicate, edges, edgesTo, inside, keptSide}
+use Rattle.clip.specs.Clip.{liesOn, planeSectionSegments, pushAll, pushSegment, pushSegments, pushUnique, sectionOn, segments, signed}
+use Rattle.clip.specs.Clip.{tol2, unique, withoutClosing}
+use Rattle.clip.specs.Clear.{Clear, ClearAbove, ClearBelow, ClearFace, ClearSide, Each, Higher, LeftOut, Lower}
+use Rattle.clip.proofs.Signs.{above-inside, above-off, below-inside, below-not-above, below-off}
+
+-- ---- each point of a list
+
+each-map : {P Q : Vector → Type 0} → ((p : Vector) → P p → Q p) → (ps : List Vector) → Each P ps → Each Q ps
+each-map f [] h = tt
+each-map f (p ∷ ps) h = (f p (h .0), each-map f ps (h .1))
+
+each-append : (P : Vector → Type 0) (ps qs : List Vector) → Each P ps → Each P qs → Each P (ps ++ qs)
+each-append P [] qs h g = g
+each-append P (p ∷ ps) qs h g = (h .0, each-append P ps qs (h .1) g)
+
+each-take : (P : Vector → Type 0) (n : ℕ) (ps : List Vector) → Each P ps → Each P (take n ps)
+each-take P zero ps h = tt
+each-take P (suc n) [] h = tt
+each-take P (suc n) (p ∷ ps) h = (h .0, each-take P n ps (h .1))
+
+-- ---- the clipped points: not within tol, as the corners are
+
+-- a point is not within tol of the cut
+abbrev Off : Cut → Vector → Type 0
+Off c p = le (abs (away c p)) (c .tol) ≡ false
+
+module _ (c : Cut) (s : Float) where
+  clear-sides : (f : Vector) (l : List Vector) → Clear c s f → Each (Clear c s) l → Each (Off c) (clipSides c s (edgesTo f l))
+  unfolding clipSides
+  clear-sides f [] g h = tt
+  clear-sides f (a ∷ []) g h = rw (h .0 .within, g .within) (g .off, tt)
+  clear-sides f (a ∷ b ∷ l) g h = rw (h .0 .within, h .1 .0 .within) (h .1 .0 .off, clear-sides f (b ∷ l) g (h .1))
+
+  clear-edges : (ps : List Vector) → Each (Clear c s) ps → Each (Off c) (clipSides c s (edges ps))
+  unfolding clipSides
+  clear-edges [] h = tt
+  clear-edges (a ∷ l) h = clear-sides a (a ∷ l) (h .0) h
+
+module _ (c : Cut) (t : Float) where
+  off-push : (k : List Vector) (p : Vector) → Each (Off c) k → Off c p → Each (Off c) (pushUnique t k p)
+  unfolding pushUnique
+  off-push k p h g = byTest (unique t k p)
+    where
+      byTest : (b : Bool) → Each (Off c) (cond b (k ++ p ∷ []) k)
+      byTest true = each-append (Off c) k (p ∷ []) h (g, tt)
+      byTest false = h
+
+  off-pushes : (k ps : List Vector) → Each (Off c) k → Each (Off c) ps → Each (Off c) (pushAll t k ps)
+  unfolding pushAll
+  off-pushes k [] h g = h
+  off-pushes k (p ∷ ps) h g = off-pushes (pushUnique t k p) ps (off-push k p h (g .0)) (g .1)
+
+  off-closing : (k : List Vector) → Each (Off c) k → Each (Off c) (withoutClosing t k)
+  unfolding withoutClosing
+  off-closing k h = byTest (ltb 1 (length k) && le (dist2 (getD k 0 []) (getD k (length k - 1) [])) t)
+    where
+      byTest : (b : Bool) → Each (Off c) (cond b (take (length k - 1) k) k)
+      byTest true = each-take (Off c) (length k - 1) k h
+      byTest false = h
+
+  -- ---- the segments: none
+  off-segment : (fs : List Seg) (a b : Vector) → Off c a → pushSegment c t fs (seg a b) ≡ fs
+  unfolding pushSegment
+  off-segment fs a b h = rw h
+
+  off-segments : (fs : List Seg) (f : Vector) (k : List Vector) → Each (Off c) k → pushSegments c t fs (edgesTo f k) ≡ fs
+  unfolding pushSegments
+  off-segments fs f [] h = refl
+  off-segments fs f (a ∷ []) h = off-segment fs a f (h .0)
+  off-segments fs f (a ∷ b ∷ l) h =
+      ap (λ (es : List Seg). pushSegments c t es (edgesTo f (b ∷ l))) (off-segment fs a b (h .0)) ∙ off-segments fs f (b ∷ l) (h .1)
+
+off-none : (c : Cut) (k : List Vector) → Each (Off c) k → segments c k ≡ []
+off-none c k h = byTest (ltb (length k) 2)
+  where
+    byTest : (b : Bool) → cond b [] (pushSegments c (tol2 c) [] (edges k)) ≡ []
+    byTest true = refl
+    byTest false = off-segments c (tol2 c) [] (getD k 0 []) k h
+
+-- ---- the theorems
+pub clear-side : (c : Cut) (s : Float) (ps : List Vector) → ClearSide c s ps
+clear-side c s ps h =
+    let t = tol2 c in
+    off-none c (withoutClosing t (clipped c s ps))
+    (off-closing c t (clipped c s ps) (off-pushes c t [] (clipSides c s (edges ps)) tt (clear-edges c s ps h)))
+
+clear-by : (c : Cut) (ps : List Vector) {g : Side} → keptSide c ps ≡ g → bySide c ps g ≡ [] → planeSectionSegments c ps ≡ []
+unfolding planeSectionSegments
+clear-by c ps e h = byTest (ltb (length ps) 3)
+  where
+    byTest : (b : Bool) → cond b [] (bySide c ps (keptSide c ps)) ≡ []
+    byTest true = refl
+    byTest false = rw e h
+
+clear-above : (c : Cut) (ps : List Vector) → Each (ClearAbove c) ps → planeSectionSegments c ps ≡ []
+unfolding planeSectionSegments anyAbove
+clear-above c [] h = refl
+clear-above c (p ∷ ps) h =
+    clear-by c (p ∷ ps) {g = Above} (rw (h .0 .higher))
+    (clear-side c f1 (p ∷ ps)
+    (each-map (λ q k. record { off = above-off (c .tol) (away c q) (k .higher); within = k .within }) (p ∷ ps) h))
+
+none-above : (c : Cut) (ps : List Vector) → Each (ClearBelow c) ps → anyAbove c ps ≡ false
+unfolding anyAbove
+none-above c [] h = refl
+none-above c (p ∷ ps) h = rw (h .0 .not-higher) (none-above c ps (h .1))
+
+clear-below : (c : Cut) (ps : List Vector) → Each (ClearBelow c) ps → planeSectionSegments c ps ≡ []
+unfolding planeSectionSegments anyBelow
+clear-below c [] h = refl
+clear-below c (p ∷ ps) h =
+    clear-by c (p ∷ ps) {g = Below} (rw (none-above c (p ∷ ps) h, h .0 .lower))
+    (clear-side c minusOne (p ∷ ps)
+    (each-map (λ q k. record { off = below-off (c .tol) (away c q) (k .lower); within = k .within }) (p ∷ ps) h))
+
+pub clear-face : (c : Cut) (ps : List Vector) → ClearFace c ps
+clear-face c ps = record { above = clear-above c ps; below = clear-below c ps }
+
+pub left-out : (c : Cut) (ps : List Vector) → LeftOut c ps
+left-out c ps =
+    record {
+      above =
+          λ h g. clear-above c ps
+          (each-map (λ p k. record { higher = k; within = above-inside (c .tol) (away c p) h k }) ps g);
+      below =
+          λ h g. clear-below c ps
+          (each-map
+          (λ p k. record {
+            lower = k;
+            not-higher = below-not-above (c .tol) (away c p) h k;
+            within = below-inside (c .tol) (away c p) h k;
+          })
+          ps g);
+    }
+
+-- ---- the loop over the corners: i of the n corners of xs are passed, each clear
+pub record Clearing (w n : ℕ) (xs : List Float) (c : Cut) (s : Float) (i : ℕ) : Type 0 where
+  pub all : Each (Clear c s) (drop i (rows w n xs)) → Each (Clear c s) (rows w n xs)
+  pub within : i ≤ n
+
+pub clearing-start : (w n : ℕ) (xs : List Float) (c : Cut) (s : Float) → Clearing w n xs c s 0
+clearing-start w n xs c s = record { all = λ h. h; within = omega arith }
+
+pub clearing-step : {w n : ℕ} {xs : List Float} {c : Cut} {s : Float} {i : ℕ} {p : Vector} → Clearing w n xs c s i → i < n
+    → p ≡ row w xs i → Clear c s p → Clearing w n xs c s (i + 1)
+clearing-step {w} {n} {xs} {c} {s} {i} {p} v h ep g =
+    let here : drop i (rows w n xs) ≡ p ∷ drop (i + 1) (rows w n xs) =
+    rw (add-one, drop-cons (rows w n xs) i [] (omega (arith, rows-length w n xs)), rows-getD w n xs i h, ep) in
+    record { all = λ r. v .all (rw here (g, r)); within = omega arith }
+
+pub clearing-end : {w n : ℕ} {xs : List Float} {c : Cut} {s : Float} {i : ℕ} → Clearing w n xs c s i → n ≤ i
+    → Each (Clear c s) (rows w n xs)
+clearing-end {w} {n} {xs} {c} {s} {i} v h =
+    let none : drop i (rows w n xs) ≡ [] = drop-of-length-le (rows w n xs) {i = i} (omega (arith, rows-length w n xs)) in
+    v .all (rw none tt)
+
+-- what the test of a corner tells
+pub clear-corner : {c : Cut} {s d : Float} {p : Vector} {b : Bool} → d ≡ away c p
+    → b ≡ (not (le (abs d) (c .tol)) && le (neg (c .tol)) (mul binary64 s d)) → b ≡ true → Clear c s p
+clear-corner {c} {s} {d} {p} {b} ed eb h =
+    let g = sym eb ∙ h in
+    let f = byTest (le (abs d) (c .tol)) (le (neg (c .tol)) (mul binary64 s d)) g in
+    record { off = rw (← ed) (f .0); within = rw (← ed) (f .1) }
+  where
+    byTest : (x y : Bool) → (not x && y) ≡ true → (x ≡ false) × (y ≡ true)
+    byTest true y h = absurd (false≢true h)
+    byTest false y h = (refl, h)
