@@ -12,12 +12,12 @@ use Rattle.vector.specs.Rows.{rows, segs}
 use Rattle.vector.proofs.Rows.{drop-later, segs-length}
 use Rattle.clip.specs.Cell.{atMost}
 use Rattle.clip.specs.Clip.{Cut, planeSectionSegments}
-use Rattle.clip.specs.Code.{Points, Rising, Segments}
+use Rattle.clip.specs.Code.{Points, Segments}
 use Rattle.clip.proofs.Bound.{section-bound}
 use Rattle.stitch.specs.Walk.{pointAt}
 use Rattle.stitch.specs.Code.{cut}
 use Rattle.section.specs.Entries.{axis, loopSegments, loopsSegments, segmentOnLine}
-use Rattle.line.specs.Code.{Loop, Loops, onLineOf}
+use Rattle.line.specs.Code.{Loop, Loops, Rising, onLineOf}
 
 rising-most : (s : ℕ) (es : List ℕ) (m : ℕ) → Rising s es m → s ≤ m
 rising-most s [] m h = h

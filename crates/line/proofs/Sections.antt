@@ -5,6 +5,7 @@ use mathlib.Core.List.{List, [], _∷_, _++_, flatten, map}
 use mathlib.Core.Bool.{Bool, true, false}
 use Prim.Native.Nat.{ℕ, zero, suc, _+_, _-_, _*_, _/_, _≤_, _<_, min, max}
 use native.Mathlib.Omega.{arith}
+use native.Mathlib.Nat.{zero-add}
 use borrow.Author.Tests.{ltb-false, ltb-true}
 use lib.Dec.{ltb}
 use lib.Ieee.{Float, binary64, mul}
@@ -16,7 +17,7 @@ use Rattle.vector.proofs.Rows.{rows-length}
 use Rattle.cell.proofs.Lists.{length-ends}
 use Rattle.clip.specs.Cell.{atMost, cellSegments, corners, cutBy, facesFrom, facesOf}
 use Rattle.clip.proofs.Bound.{cell-bound}
-use Rattle.clip.specs.Code.{Rising}
+use Rattle.clip.specs.Code.{Fit}
 use Rattle.weld.specs.Weld.{Edge, Within, between, listed, listedEdges, weldedPoints}
 use Rattle.weld.proofs.Edges.{listed-within, newer-unlisted}
 use Rattle.stitch.specs.Claim.{All, lastOr, sides, steps}
@@ -25,19 +26,29 @@ use Rattle.stitch.specs.Stitch.{Answer, stitched}
 use Rattle.stitch.specs.declared.Stitched.{Stitched}
 use Rattle.stitch.proofs.Claim.{claim}
 use Rattle.section.specs.Entries.{lineOfSection, loopSegments, loopsSegments, sectionOf, segmentOnLine}
-use Rattle.section.specs.Code.{Faces, Roomy}
-use Rattle.section.proofs.Seam.{rising-ends}
+use Rattle.section.specs.Code.{Faces}
 use Rattle.section.proofs.Stitching.{few-segments}
-use Rattle.line.specs.Code.{Loops, onLineOf}
+use Rattle.line.specs.Code.{LineRoom, Loops, Rising, onLineOf}
 use Rattle.line.specs.Claims.{LineBounded}
 use Rattle.line.proofs.LoopsCut.{loop-bound}
 
--- faces that end at rising totals up to m have at most m corners
-corners-within : (w s : ℕ) (es : List ℕ) (m : ℕ) (xs : List Float) → Rising s es m → s + corners (facesFrom w s es xs) ≤ m
-corners-within w s [] m xs h = omega arith
-corners-within w s (e ∷ es) m xs h =
+-- faces that end at running totals up to m have at most m corners
+corners-within : (w s : ℕ) (es : List ℕ) (m p q : ℕ) (xs : List Float) → Fit s es m p q → s + corners (facesFrom w s es xs) ≤ m
+corners-within w s [] m p q xs h = omega arith
+corners-within w s (e ∷ es) m p q xs h =
     let n = rows-length w (e - s) (drop (w * s) xs) in
-    omega (arith, h .0, corners-within w e es m xs (h .1))
+    omega (arith, h .0, corners-within w e es m p q xs (h .3))
+
+-- where lists in a row end are running totals
+rising-from : {A : Type 0} (k : ℕ) (ls : List (List A)) → Rising k (endsFrom k ls) (k + length (flatten ls))
+unfolding flatten endsFrom
+rising-from k [] = omega arith
+rising-from k (l ∷ ls) =
+    let e : k + length l + length (flatten ls) ≡ k + length (l ++ flatten ls) = omega (arith, length-append l (flatten ls)) in
+    (omega arith, subst (Rising (k + length l) (endsFrom (k + length l) ls)) e (rising-from (k + length l) ls))
+
+rising-ends : {A : Type 0} (ls : List (List A)) → Rising 0 (endsFrom 0 ls) (length (flatten ls))
+rising-ends ls = subst (Rising 0 (endsFrom 0 ls)) (zero-add (length (flatten ls))) (rising-from 0 ls)
 
 -- ---- the nodes of loops are welded points
 
@@ -159,32 +170,32 @@ line-bound f tol ps =
     )
 
 -- so they fit the buffer
-pub line-fits : (f : Frame) (tol : Float) (m : ℕ) (stops : List ℕ) (coords : List Float) (a r : ℕ) → Rising 0 stops m → 14 * m ≤ a
+pub line-fits : (f : Frame) (tol : Float) (m : ℕ) (stops : List ℕ) (coords : List Float) (p q a r : ℕ) → Fit 0 stops m p q → 14 * m ≤ a
     → r ≡ length (lineOfSection f tol (sectionOf f tol (facesOf 3 stops coords))) → 3 * (2 * r) ≤ a
-line-fits f tol m stops coords a r h room e =
-    omega (arith, line-bound f tol (facesOf 3 stops coords), corners-within 3 0 stops m coords h)
+line-fits f tol m stops coords p q a r h room e =
+    omega (arith, line-bound f tol (facesOf 3 stops coords), corners-within 3 0 stops m p q coords h)
 
 -- ---- what the cut of the loops needs
 
 pub loops-ready : (f : Frame) (tol : Float) {m : ℕ} {stops : List ℕ} {coords points space segments : List Float} {welded : List Float}
-    {nodes ends : List ℕ} {r : Stitched} {welded′ points′ space′ numbers : List Float} {nodes′ ends′ : List ℕ}
-    → Faces m stops coords points space segments → Roomy m welded nodes ends → 14 * m ≤ length numbers
+    {nodes ends : List ℕ} {r : Stitched} {welded′ segments′ space′ numbers : List Float} {nodes′ ends′ : List ℕ}
+    → Faces m stops coords points space segments → LineRoom m space welded nodes ends → 14 * m ≤ length numbers
     → Gave (sectionOf f tol (facesOf 3 stops coords)) r welded welded′ nodes nodes′ ends ends′
-    → length welded′ ≡ length welded → length points′ ≡ length points → length space′ ≡ length space
-    → Loops (r .points) welded′ (take (r .nodes) nodes′) (take (r .loops) ends′) coords points′ space′ numbers
-loops-ready f tol {m = m} {stops = stops} {coords = coords} {r = r} {nodes′ = nodes′} {ends′ = ends′} h y room g lw lp ls =
+    → length welded′ ≡ length welded → length segments′ ≡ length segments → length space′ ≡ length space
+    → Loops (r .points) welded′ (take (r .nodes) nodes′) (take (r .loops) ends′) coords segments′ space′ numbers
+loops-ready f tol {m = m} {stops = stops} {coords = coords} {r = r} {nodes′ = nodes′} {ends′ = ends′} h y room g lw lg ls =
     let ss = cellSegments (cutBy f tol) f (facesOf 3 stops coords) in
     let a = stitched tol ss in
-    let few : length ss ≤ atMost m = few-segments (cutBy f tol) f stops coords m (h .rising) in
+    let few : length ss ≤ atMost m = few-segments (cutBy f tol) f stops coords m _ _ (h .fit) in
     let c = claim (mul binary64 tol tol) ss in
     let np = c .few-points in
     let nn = c .few-nodes in
     let pc = g .point-count in
     let m256 = h .few in
-    let w = y .for-numbers in
+    let w = y .for-section .for-numbers in
     let x = h .for-corners in
-    let p = h .for-points in
-    let q = h .for-space in
+    let p = h .for-segments in
+    let q = y .for-segments in
     let n : length (take (r .nodes) nodes′) ≡ length (flatten (a .loops)) = ap length (nodes-taken g) in
     record {
       each =

@@ -1,6 +1,6 @@
 -- What the clauses of the code cite. The entries themselves are `lineCut`, `byNormal` and `byDirection` in section/specs/Entries.antt.
 -- Definitions only.
-use mathlib.Core.List.{List, map, flatten}
+use mathlib.Core.List.{List, [], _∷_, map, flatten}
 use Prim.Native.Nat.{ℕ, _*_, _≤_}
 use lib.Dec.{leb}
 use lib.ListN.{length}
@@ -11,12 +11,12 @@ use Rattle.vector.specs.Rows.{Seg}
 use Rattle.cell.specs.Read.{Polygon, planeCell}
 use Rattle.clip.specs.Clip.{Cut, planeSectionSegments}
 use Rattle.clip.specs.Cell.{atMost}
-use Rattle.clip.specs.Code.{Rising}
 use Rattle.clip.specs.View.{cut2}
 use Rattle.stitch.specs.Code.{Below, cut}
 use Rattle.section.specs.Outcome.{Outcome, refused, found, andThen, unless, ToldLine}
 use Rattle.section.specs.Entries.{frameIn, lineOfSection, loopsSegments, normalIn, placedBy, polygonSegments, polygonsOf}
 use Rattle.section.specs.Entries.{sectionOf, segmentOnLine}
+use Rattle.section.specs.Code.{Roomy}
 use Rattle.line.specs.declared.Line as L
 use Rattle.line.specs.declared.Line.the-variants as l
 use Rattle.line.specs.declared.Placing as P
@@ -47,6 +47,16 @@ placing (p.On f) = found (frameOf f)
 -- the segments on the line of loops whose nodes stand in a row and end at `ends`
 abbrev pub onLineOf : Frame → Float → List Vector → List ℕ → List ℕ → List Seg
 onLineOf f tol ps ends nodes = map (segmentOnLine f) (loopsSegments tol ps (cut 0 ends nodes))
+
+-- room for the section of m face corners, and for the segments of its loops, which the scratch `space` takes in its turn
+pub record LineRoom (m : ℕ) (space welded : List Float) (nodes ends : List ℕ) : Type 0 where
+  pub for-section : Roomy m welded nodes ends
+  pub for-segments : 6 * atMost m ≤ length space
+
+-- running totals from s on: none is below the one before it, or above m
+abbrev pub Rising : ℕ → List ℕ → ℕ → Type 0
+Rising s [] m = s ≤ m
+Rising s (e ∷ es) m = (s ≤ e) × Rising e es m
 
 -- nodes among p points, with room for a polygon of them, its clipped points and its segments
 pub record Loop (p : ℕ) (points : List Float) (nodes : List ℕ) (polygon clipped flat : List Float) : Type 0 where

@@ -5,12 +5,6 @@ use Rattle.line.proofs.LoopsCut.{loop-few, loop-segments}
 use borrow.Author.Needs.{needs}
 use Rattle.line.proofs.cut_loop.Statement.{statement}
 use Rattle.line.proofs.cut_loop.Tie as tie
-use Rattle.line.proofs.cut_loop.Reads as reads
-use Rattle.line.proofs.cut_loop.Lts as lts
-use Rattle.clip.proofs.plane.plane_section_segments.Reads as plane-section-segments-reads
-use Rattle.line.proofs.axis.Reads as axis-reads
-use Rattle.line.proofs.loop_points.Reads as loop-points-reads
-use Rattle.line.proofs.put_on_line.Reads as put-on-line-reads
 
 loop-points-requires : tie.Need-loop-points-requires
 loop-points-requires c κs = search needs
