@@ -2,6 +2,7 @@
 use mathlib.Core.Path.{sym}
 use lib.Seq.{length-take-le}
 use Rattle.vector.specs.View.{frameOf}
+use Rattle.line.proofs.Answers.{segments-same}
 use Rattle.line.proofs.Sections.{ends-there, line-of, loops-ready, nodes-there}
 use borrow.Author.Needs.{needs}
 use Rattle.line.proofs.line_section.Statement.{statement}
@@ -56,7 +57,7 @@ same-length-8 c = search needs
 returns : tie.Need-returns
 returns c =
     let g = c .before .before .before .before .before .before .before .before .before .before .before .before .before .before .before .before .before .before .before .before .before .before .before .before .before .before .before .before .before .before .before .before .before .before .before .before .before .before .before .before .before .before .before .before .before .args in
-    rw (line-of (c .before .before .before .before .before .before .before .before .before .before .before .before .before .before .before .before .before .before .before .before .before .before .before .before .before .before .before .before .stitch-faces .ensures) (frameOf (g .plane)) (g .tol)) at (c .before .before .before .before .before .before .before .before .cut-loops .ensures)
+    segments-same (line-of (c .before .before .before .before .before .before .before .before .before .before .before .before .before .before .before .before .before .before .before .before .before .before .before .before .before .before .before .before .stitch-faces .ensures) (frameOf (g .plane)) (g .tol)) (c .before .before .before .before .before .before .before .before .cut-loops .ensures)
 
 pub line-section-spec : {M : Type 1} → statement M
 line-section-spec =
