@@ -1,10 +1,20 @@
 //! Cicelybeam's proved functions as Rust sees them, and what the comparisons share.
 
+#[cfg(feature = "mefikit")]
+pub mod answers;
+pub mod cells;
+#[cfg(feature = "mefikit")]
+pub mod cuts;
+#[cfg(feature = "mefikit")]
+pub mod cutting;
+pub mod entries;
 pub mod faces;
 pub mod lists;
 pub mod numbers;
 pub mod proved;
 pub mod random;
+#[cfg(feature = "mefikit")]
+pub mod recorded;
 pub mod roots;
 #[cfg(feature = "mefikit")]
 pub mod segments;
@@ -12,6 +22,10 @@ pub mod segments;
 pub mod stitching;
 #[cfg(feature = "mefikit")]
 pub mod vectors;
+#[cfg(feature = "mefikit")]
+pub mod walks;
+#[cfg(feature = "mefikit")]
+pub mod worked;
 
 pub use proved::sqrt;
 

@@ -159,6 +159,17 @@ pub fn plane_cell_by_direction(
     ))
 }
 
+/// The cell as slice.rs takes it, its corners not yet read: to call functions of `reach` with.
+pub fn element(cell: Cell<'_>) -> Result<Element<'_>, Stop> {
+    let found = ElementType::of_number(cell.number).ok_or(Stop::Type)?;
+    let columns = if found.dimension() == Dimension::D3 {
+        3
+    } else {
+        2
+    };
+    typed(cell, found.dimension(), columns)
+}
+
 /// Stitching alone.
 pub fn stitch(build: Build, segments: &[Segment<2>], tol: f64) -> Section {
     section(ask!(build, stitch_segments(segments, tol)))

@@ -1,6 +1,7 @@
 -- What the structs of the exports tell. Definitions only.
-use Rattle.section.specs.Outcome.{Told, ToldTolerance}
+use Rattle.section.specs.Outcome.{Told, ToldLine, ToldTolerance}
 use Rattle.cicelybeam.specs.declared.Section.{Section}
+use Rattle.cicelybeam.specs.declared.Line.{Line}
 use Rattle.cicelybeam.specs.declared.Tolerance.{Tolerance}
 
 -- a section's numbers, as document 01 has them
@@ -17,5 +18,10 @@ toldIn r =
       opened = r .opened;
     }
 
+-- a line section's
+abbrev pub toldLineIn : Line → ToldLine
+toldLineIn r = record { refusal = r .refusal; segments = r .segments }
+
+-- a tolerance
 abbrev pub toldToleranceIn : Tolerance → ToldTolerance
 toldToleranceIn r = record { refusal = r .refusal; value = r .value }

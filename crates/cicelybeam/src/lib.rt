@@ -4,11 +4,12 @@ ghost use Prim.Native.Nat.{_<_};
 ghost use lib.Ieee.{binary64};
 ghost use lib.ListN.{length};
 ghost use Rattle.root.specs.Root.{sqrtOf};
-ghost use Rattle.section.specs.Outcome.{Gave, toldTolerance};
-ghost use Rattle.section.specs.Entries.{planeCut, stitchAlone, toleranceOf};
+ghost use Rattle.section.specs.Outcome.{Gave, GaveLine, toldTolerance};
+ghost use Rattle.section.specs.Entries.{byDirection, byNormal, lineCut, planeCut, stitchAlone, toleranceOf};
 ghost use Rattle.section.specs.Claims.{Small};
 ghost use Rattle.section.specs.Code.{counted, meaning, toleranceMeaning};
-ghost use Rattle.cicelybeam.specs.Exports.{toldIn, toldToleranceIn};
+ghost use Rattle.line.specs.Code.{meaning as lineMeaning};
+ghost use Rattle.cicelybeam.specs.Exports.{toldIn, toldLineIn, toldToleranceIn};
 
 // struct cicelybeam_section: refusal 0, how many points, nodes and loops were written, and the four counts of edges; or the
 // number of a refusal, and 0 for all else. C's `open` is `opened` here, since `open` is a reserved word.
@@ -22,6 +23,13 @@ pub struct Section {
     pub in_loops: u32,
     pub flat: u32,
     pub opened: u32,
+}
+
+// struct cicelybeam_line: refusal 0 and how many segments were written, or the number of a refusal and 0.
+#[repr(C)]
+pub struct Line {
+    pub refusal: u32,
+    pub segments: u32,
 }
 
 // struct cicelybeam_tolerance: refusal 0 and the tolerance, or the number of a refusal and 0.
@@ -61,6 +69,63 @@ pub extern "C" fn cicelybeam_plane(
         nodes,
         ends,
     ))
+}
+
+// A space cell cut by a line.
+#[no_mangle]
+pub extern "C" fn cicelybeam_line_in_space(
+    kind: u8,
+    conn: &[u64],
+    coords: &[f64],
+    origin: &[f64],
+    direction: &[f64],
+    tol: f64,
+    numbers: &mut [f64],
+) -> Line
+    ensures { λ r. ⌜ GaveLine
+        (lineCut kind (now (conn .entry)) (now (coords .entry)) (now (origin .entry)) (now (direction .entry)) tol
+        (length (now (numbers .entry))))
+        (toldLineIn r) (now (numbers .entry)) (now (numbers .exit)) ⌝ }
+{
+    told_line(line::slice_line_3d(kind, conn, coords, origin, direction, tol, numbers))
+}
+
+// A plane cell cut by a line that its normal gives.
+#[no_mangle]
+pub extern "C" fn cicelybeam_plane_cell_by_normal(
+    kind: u8,
+    conn: &[u64],
+    coords: &[f64],
+    origin: &[f64],
+    normal: &[f64],
+    tol: f64,
+    numbers: &mut [f64],
+) -> Line
+    ensures { λ r. ⌜ GaveLine
+        (byNormal kind (now (conn .entry)) (now (coords .entry)) (now (origin .entry)) (now (normal .entry)) tol
+        (length (now (numbers .entry))))
+        (toldLineIn r) (now (numbers .entry)) (now (numbers .exit)) ⌝ }
+{
+    told_line(line::slice_2d(kind, conn, coords, origin, normal, tol, numbers))
+}
+
+// A plane cell cut by a line that its direction gives.
+#[no_mangle]
+pub extern "C" fn cicelybeam_plane_cell_by_direction(
+    kind: u8,
+    conn: &[u64],
+    coords: &[f64],
+    origin: &[f64],
+    direction: &[f64],
+    tol: f64,
+    numbers: &mut [f64],
+) -> Line
+    ensures { λ r. ⌜ GaveLine
+        (byDirection kind (now (conn .entry)) (now (coords .entry)) (now (origin .entry)) (now (direction .entry)) tol
+        (length (now (numbers .entry))))
+        (toldLineIn r) (now (numbers .entry)) (now (numbers .exit)) ⌝ }
+{
+    told_line(line::slice_line(kind, conn, coords, origin, direction, tol, numbers))
 }
 
 // Stitching alone.
@@ -139,6 +204,23 @@ fn counted(s: stitch::Stitched) -> Section
         in_loops: narrow(s.in_loops),
         flat: narrow(s.flat),
         opened: narrow(s.opened),
+    }
+}
+
+// A line section as a C struct.
+fn told_line(answer: line::Line) -> Line
+    requires { ⌜ lineMeaning answer .segments < 4294967296 ⌝ }
+    ensures { λ r. ⌜ toldLineIn r ≡ lineMeaning answer ⌝ }
+{
+    match answer {
+        line::Line::Refused(k) => Line {
+            refusal: k as u32,
+            segments: 0,
+        },
+        line::Line::Cut(n) => Line {
+            refusal: 0,
+            segments: narrow(n),
+        },
     }
 }
 

@@ -5,3 +5,4 @@ pub mod Corners
 pub mod Carrying
 pub mod LoopsCut
 pub mod Sections
+pub mod Claims

@@ -16,9 +16,10 @@ use Rattle.clip.specs.Clip.{Cut, planeSectionSegments}
 use Rattle.clip.specs.Cell.{facesOf}
 use Rattle.section.specs.Outcome as O
 use Rattle.section.specs.Entries.{lineCut, polygonsOf, polygonSegments}
+use Rattle.section.specs.Code.{Roomy}
 use Rattle.section.proofs.Reading as R
 use Rattle.section.proofs.Seam.{corners-most, plane-seam}
-use Rattle.line.specs.Code.{LineRoom, cellCut, linePolygons, segmentsIn}
+use Rattle.line.specs.Code.{Lent, LentFor, cellCut, linePolygons, segmentsIn}
 
 -- ---- by the answer; no ends are written
 
@@ -46,32 +47,44 @@ module _ (t : ℕ) (c : List ℕ) (xs : List Float) {r : Reading} {coords coords
       ∙ ap (λ k. linePolygons o d tol k a (p .polygons)) (sym (p .corners))
       ∙ ap (λ ps. linePolygons o d tol m a ps) (sym (R.faces-are t c xs h e))
 
-  -- what holds all of any cell of the type holds all of this one
-  pub line-room : {space numbers : List Float} {nodes ends : List ℕ} → LineRoom (spaceMost t) space numbers nodes ends
-      → LineRoom m space numbers nodes ends
-  line-room y =
+  -- what holds the section of any cell of the type holds that of this one
+  pub section-room : {numbers : List Float} {nodes ends : List ℕ} → Roomy (spaceMost t) numbers nodes ends → Roomy m numbers nodes ends
+  section-room y =
       let p = R.cell t c xs h e in
       let n : length (flatten (p .polygons)) ≤ spaceMost t = corners-most t c xs (p .polygons) (p .is) in
       let k = p .corners in
-      let a = y .for-section .for-numbers in
-      let b = y .for-section .for-nodes in
-      let d = y .for-section .for-ends in
-      let q = y .for-segments in
-      record {
-        for-section = record { for-numbers = omega arith; for-nodes = omega arith; for-ends = omega arith };
-        for-segments = omega arith;
-      }
+      let a = y .for-numbers in
+      let b = y .for-nodes in
+      let d = y .for-ends in
+      record { for-numbers = omega arith; for-nodes = omega arith; for-ends = omega arith }
+
+  -- and so it is with the room for the loops
+  pub line-ready : {points space segments : List Float} → LentFor t stops coords points space segments → length coords′ ≡ length coords
+      → Lent m (take f stops′) coords′ points space segments
+  line-ready y l =
+      let p = R.cell t c xs h e in
+      let n : length (flatten (p .polygons)) ≤ spaceMost t = corners-most t c xs (p .polygons) (p .is) in
+      let k = p .corners in
+      let a = y .for-clipped in
+      let b = y .for-flat in
+      record { faces = R.ready t c xs h e (y .scratch) l; for-clipped = omega arith; for-flat = omega arith }
 
 -- every type but PHED has the room of TET4's tier
-pub fixed-room : {t : ℕ} {space numbers : List Float} {nodes ends : List ℕ} → (t ≡ 18 → ⊥)
-    → LineRoom (spaceMost 12) space numbers nodes ends → LineRoom (spaceMost t) space numbers nodes ends
-fixed-room {t} {space} {numbers} {nodes} {ends} h y =
+pub fixed-room : {t : ℕ} {numbers : List Float} {nodes ends : List ℕ} → (t ≡ 18 → ⊥) → Roomy (spaceMost 12) numbers nodes ends
+    → Roomy (spaceMost t) numbers nodes ends
+fixed-room {t} {numbers} {nodes} {ends} h y =
     let e : spaceMost t ≡ 24 = rw (ne-eqb t 18 h) in
-    subst (λ m. LineRoom m space numbers nodes ends) (sym e) y
+    subst (λ m. Roomy m numbers nodes ends) (sym e) y
+
+pub fixed-lent : {t : ℕ} {stops : List ℕ} {coords points space segments : List Float} → (t ≡ 18 → ⊥)
+    → LentFor 12 stops coords points space segments → LentFor t stops coords points space segments
+fixed-lent {t} h y =
+    let e : spaceMost t ≡ 24 = rw (ne-eqb t 18 h) in
+    record { scratch = R.fixed-scratch h (y .scratch); for-clipped = rw e (y .for-clipped); for-flat = rw e (y .for-flat) }
 
 -- ---- a cell in the plane
 
-most-256 : (t : ℕ) → planeMost t ≤ 256
+pub most-256 : (t : ℕ) → planeMost t ≤ 256
 most-256 t = either (eqb t 11)
   where
     either : (b : Bool) → cond b 256 4 ≤ 256

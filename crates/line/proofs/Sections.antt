@@ -26,20 +26,14 @@ use Rattle.stitch.specs.Stitch.{Answer, stitched}
 use Rattle.stitch.specs.declared.Stitched.{Stitched}
 use Rattle.stitch.proofs.Claim.{claim}
 use Rattle.section.specs.Entries.{lineOfSection, loopSegments, loopsSegments, sectionOf, segmentOnLine}
-use Rattle.section.specs.Code.{Faces}
-use Rattle.section.proofs.Stitching.{few-segments}
-use Rattle.line.specs.Code.{LineRoom, Loops, Rising, onLineOf}
+use Rattle.section.specs.Code.{Roomy}
+use Rattle.section.proofs.Stitching.{corners-most, few-segments}
+use Rattle.line.specs.Code.{Lent, Loops, Rising, onLineOf}
 use Rattle.line.specs.Claims.{LineBounded}
 use Rattle.line.proofs.LoopsCut.{loop-bound}
 
--- faces that end at running totals up to m have at most m corners
-corners-within : (w s : ℕ) (es : List ℕ) (m p q : ℕ) (xs : List Float) → Fit s es m p q → s + corners (facesFrom w s es xs) ≤ m
-corners-within w s [] m p q xs h = omega arith
-corners-within w s (e ∷ es) m p q xs h =
-    let n = rows-length w (e - s) (drop (w * s) xs) in
-    omega (arith, h .0, corners-within w e es m p q xs (h .3))
+-- ---- the ends of lists in a row are running totals
 
--- where lists in a row end are running totals
 rising-from : {A : Type 0} (k : ℕ) (ls : List (List A)) → Rising k (endsFrom k ls) (k + length (flatten ls))
 unfolding flatten endsFrom
 rising-from k [] = omega arith
@@ -170,32 +164,32 @@ line-bound f tol ps =
     )
 
 -- so they fit the buffer
-pub line-fits : (f : Frame) (tol : Float) (m : ℕ) (stops : List ℕ) (coords : List Float) (p q a r : ℕ) → Fit 0 stops m p q → 14 * m ≤ a
+pub line-fits : (f : Frame) (tol : Float) (m : ℕ) (stops : List ℕ) (coords : List Float) (a r p q : ℕ) → Fit 0 stops m p q → 14 * m ≤ a
     → r ≡ length (lineOfSection f tol (sectionOf f tol (facesOf 3 stops coords))) → 3 * (2 * r) ≤ a
-line-fits f tol m stops coords p q a r h room e =
-    omega (arith, line-bound f tol (facesOf 3 stops coords), corners-within 3 0 stops m p q coords h)
+line-fits f tol m stops coords a r p q h room e =
+    omega (arith, line-bound f tol (facesOf 3 stops coords), corners-most 3 0 stops m p q coords h)
 
 -- ---- what the cut of the loops needs
 
 pub loops-ready : (f : Frame) (tol : Float) {m : ℕ} {stops : List ℕ} {coords points space segments : List Float} {welded : List Float}
-    {nodes ends : List ℕ} {r : Stitched} {welded′ segments′ space′ numbers : List Float} {nodes′ ends′ : List ℕ}
-    → Faces m stops coords points space segments → LineRoom m space welded nodes ends → 14 * m ≤ length numbers
+    {nodes ends : List ℕ} {r : Stitched} {welded′ points′ space′ numbers : List Float} {nodes′ ends′ : List ℕ}
+    → Lent m stops coords points space segments → Roomy m welded nodes ends → 14 * m ≤ length numbers
     → Gave (sectionOf f tol (facesOf 3 stops coords)) r welded welded′ nodes nodes′ ends ends′
-    → length welded′ ≡ length welded → length segments′ ≡ length segments → length space′ ≡ length space
-    → Loops (r .points) welded′ (take (r .nodes) nodes′) (take (r .loops) ends′) coords segments′ space′ numbers
-loops-ready f tol {m = m} {stops = stops} {coords = coords} {r = r} {nodes′ = nodes′} {ends′ = ends′} h y room g lw lg ls =
+    → length welded′ ≡ length welded → length points′ ≡ length points → length space′ ≡ length space
+    → Loops (r .points) welded′ (take (r .nodes) nodes′) (take (r .loops) ends′) coords points′ space′ numbers
+loops-ready f tol {m = m} {stops = stops} {coords = coords} {points = points} {space = space} {r = r} {nodes′ = nodes′} {ends′ = ends′} h y room g lw lp ls =
     let ss = cellSegments (cutBy f tol) f (facesOf 3 stops coords) in
     let a = stitched tol ss in
-    let few : length ss ≤ atMost m = few-segments (cutBy f tol) f stops coords m _ _ (h .fit) in
+    let few : length ss ≤ atMost m = few-segments (cutBy f tol) f stops coords m (length points) (length space) (h .faces .fit) in
     let c = claim (mul binary64 tol tol) ss in
     let np = c .few-points in
     let nn = c .few-nodes in
     let pc = g .point-count in
-    let m256 = h .few in
-    let w = y .for-section .for-numbers in
-    let x = h .for-corners in
-    let p = h .for-segments in
-    let q = y .for-segments in
+    let m256 = h .faces .few in
+    let w = y .for-numbers in
+    let x = h .faces .for-corners in
+    let p = h .for-clipped in
+    let q = h .for-flat in
     let n : length (take (r .nodes) nodes′) ≡ length (flatten (a .loops)) = ap length (nodes-taken g) in
     record {
       each =

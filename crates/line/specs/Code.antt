@@ -8,7 +8,7 @@ use lib.Ieee.{Float}
 use Rattle.vector.specs.Vector.{Vector, Direction, Frame, lineOf}
 use Rattle.vector.specs.View.{frameOf}
 use Rattle.vector.specs.Rows.{Seg}
-use Rattle.cell.specs.Read.{Polygon, planeCell}
+use Rattle.cell.specs.Read.{Polygon, planeCell, spaceMost}
 use Rattle.clip.specs.Clip.{Cut, planeSectionSegments}
 use Rattle.clip.specs.Cell.{atMost}
 use Rattle.clip.specs.View.{cut2}
@@ -16,7 +16,7 @@ use Rattle.stitch.specs.Code.{Below, cut}
 use Rattle.section.specs.Outcome.{Outcome, refused, found, andThen, unless, ToldLine}
 use Rattle.section.specs.Entries.{frameIn, lineOfSection, loopsSegments, normalIn, placedBy, polygonSegments, polygonsOf}
 use Rattle.section.specs.Entries.{sectionOf, segmentOnLine}
-use Rattle.section.specs.Code.{Roomy}
+use Rattle.section.specs.Code.{Faces, Scratch}
 use Rattle.line.specs.declared.Line as L
 use Rattle.line.specs.declared.Line.the-variants as l
 use Rattle.line.specs.declared.Placing as P
@@ -39,6 +39,18 @@ lineIn tol m a ps f = unless 7 (leb (14 * m) a) (found (lineOfSection f tol (sec
 abbrev pub linePolygons : List Float → List Float → Float → ℕ → ℕ → List Polygon → Outcome (List Seg)
 linePolygons o d tol m a ps = andThen (placedBy 3 o d (frameIn (lineOf o d))) (lineIn tol m a ps)
 
+-- faces with m corners, and room in the same slices for what is worked out of the section's loops
+pub record Lent (m : ℕ) (stops : List ℕ) (coords points space segments : List Float) : Type 0 where
+  pub faces : Faces m stops coords points space segments
+  pub for-clipped : 3 * atMost m ≤ length points
+  pub for-flat : 6 * atMost m ≤ length space
+
+-- such room for a cell of type number t
+pub record LentFor (t : ℕ) (stops : List ℕ) (coords points space segments : List Float) : Type 0 where
+  pub scratch : Scratch t stops coords points space segments
+  pub for-clipped : 3 * atMost (spaceMost t) ≤ length points
+  pub for-flat : 6 * atMost (spaceMost t) ≤ length space
+
 -- the plane that holds the line, or why there is none
 abbrev pub placing : P.Placing → Outcome Frame
 placing (p.Refused k) = refused k
@@ -48,16 +60,6 @@ placing (p.On f) = found (frameOf f)
 abbrev pub onLineOf : Frame → Float → List Vector → List ℕ → List ℕ → List Seg
 onLineOf f tol ps ends nodes = map (segmentOnLine f) (loopsSegments tol ps (cut 0 ends nodes))
 
--- room for the section of m face corners, and for the segments of its loops, which the scratch `space` takes in its turn
-pub record LineRoom (m : ℕ) (space welded : List Float) (nodes ends : List ℕ) : Type 0 where
-  pub for-section : Roomy m welded nodes ends
-  pub for-segments : 6 * atMost m ≤ length space
-
--- running totals from s on: none is below the one before it, or above m
-abbrev pub Rising : ℕ → List ℕ → ℕ → Type 0
-Rising s [] m = s ≤ m
-Rising s (e ∷ es) m = (s ≤ e) × Rising e es m
-
 -- nodes among p points, with room for a polygon of them, its clipped points and its segments
 pub record Loop (p : ℕ) (points : List Float) (nodes : List ℕ) (polygon clipped flat : List Float) : Type 0 where
   pub points-room : 2 * p ≤ length points
@@ -66,6 +68,11 @@ pub record Loop (p : ℕ) (points : List Float) (nodes : List ℕ) (polygon clip
   pub for-polygon : 2 * length nodes ≤ length polygon
   pub for-clipped : 2 * atMost (length nodes) ≤ length clipped
   pub for-flat : 4 * atMost (length nodes) ≤ length flat
+
+-- running totals from s on: none is below the one before it, or above m
+abbrev pub Rising : ℕ → List ℕ → ℕ → Type 0
+Rising s [] m = s ≤ m
+Rising s (e ∷ es) m = (s ≤ e) × Rising e es m
 
 -- the nodes of loops that end at running totals, with room for all that is worked out of them
 pub record Loops (p : ℕ) (points : List Float) (nodes ends : List ℕ) (polygon clipped flat numbers : List Float) : Type 0 where

@@ -15,8 +15,8 @@ ghost use Rattle.stitch.specs.Walk.{pointAt};
 ghost use Rattle.section.specs.Outcome.{GaveLine, andThen, found};
 ghost use Rattle.section.specs.Entries.{axis, byDirection, byNormal, frameIn, lineCut, lineOfSection, loopSegments};
 ghost use Rattle.section.specs.Entries.{normalIn, onLine, placedBy, sectionOf, segmentOnLine};
-ghost use Rattle.section.specs.Code.{Faces, Scratch};
-ghost use Rattle.line.specs.Code.{LineRoom, Loop, Loops, cellCut, cutting, lineBy, lineIn, linePolygons, meaning};
+ghost use Rattle.section.specs.Code.{Roomy};
+ghost use Rattle.line.specs.Code.{Lent, LentFor, Loop, Loops, cellCut, cutting, lineBy, lineIn, linePolygons, meaning};
 ghost use Rattle.line.specs.Code.{onLineOf, placing, segmentsIn};
 use cell::PlaneType;
 use cell::Reading;
@@ -117,7 +117,7 @@ fn line_fixed(
 {
     let mut coords = [0.0f64; 72];
     let mut stops = [0usize; 6];
-    let mut points = [0.0f64; 18];
+    let mut points = [0.0f64; 108];
     let mut space = [0.0f64; 216];
     let mut segments = [0.0f64; 144];
     let mut welded = [0.0f64; 144];
@@ -160,8 +160,8 @@ fn line_within(
     nodes: &mut [u32],
     ends: &mut [u32],
 ) -> Line
-    requires { ⌜ Scratch t (now stops) (now coords) (now points) (now space) (now segments)
-        × LineRoom (spaceMost t) (now space) (now welded) (now nodes) (now ends) ⌝ }
+    requires { ⌜ LentFor t (now stops) (now coords) (now points) (now space) (now segments)
+        × Roomy (spaceMost t) (now welded) (now nodes) (now ends) ⌝ }
     ensures { λ r. ⌜ GaveLine
         (lineCut t (now (conn .entry)) (now (xs .entry)) (now (origin .entry)) (now (direction .entry)) tol
         (length (now (numbers .entry))))
@@ -203,8 +203,8 @@ fn line_faces(
     nodes: &mut [u32],
     ends: &mut [u32],
 ) -> Line
-    requires { ⌜ Faces m (now stops) (now coords) (now points) (now space) (now segments)
-        × LineRoom m (now space) (now welded) (now nodes) (now ends) ⌝ }
+    requires { ⌜ Lent m (now stops) (now coords) (now points) (now space) (now segments)
+        × Roomy m (now welded) (now nodes) (now ends) ⌝ }
     ensures { λ r. ⌜ GaveLine
         (linePolygons (now (origin .entry)) (now (direction .entry)) tol m (length (now (numbers .entry)))
         (facesOf 3 (now (stops .entry)) (now (coords .entry))))
@@ -244,8 +244,8 @@ fn line_on(
     nodes: &mut [u32],
     ends: &mut [u32],
 ) -> Line
-    requires { ⌜ Faces m (now stops) (now coords) (now points) (now space) (now segments)
-        × LineRoom m (now space) (now welded) (now nodes) (now ends) ⌝ }
+    requires { ⌜ Lent m (now stops) (now coords) (now points) (now space) (now segments)
+        × Roomy m (now welded) (now nodes) (now ends) ⌝ }
     ensures { λ r. ⌜ GaveLine
         (lineIn tol m (length (now (numbers .entry))) (facesOf 3 (now (stops .entry)) (now (coords .entry)))
         (frameOf plane))
@@ -271,7 +271,7 @@ fn line_on(
 }
 
 // The section of faces with m corners by a plane, and each of its loops cut by y = 0. What was lent for the corners,
-// and for the segments of the cell and of a face, then serves the loops.
+// the clipped points and the segments of faces serves the loops afterwards.
 fn line_section(
     plane: Plane,
     tol: f64,
@@ -286,8 +286,8 @@ fn line_section(
     nodes: &mut [u32],
     ends: &mut [u32],
 ) -> usize
-    requires { ⌜ Faces m (now stops) (now coords) (now points) (now space) (now segments)
-        × LineRoom m (now space) (now welded) (now nodes) (now ends) × (14 * m ≤ length (now numbers)) ⌝ }
+    requires { ⌜ Lent m (now stops) (now coords) (now points) (now space) (now segments)
+        × Roomy m (now welded) (now nodes) (now ends) × (14 * m ≤ length (now numbers)) ⌝ }
     ensures { λ r. ⌜ Segments 3 (now (numbers .entry))
         (lineOfSection (frameOf plane) tol
         (sectionOf (frameOf plane) tol (facesOf 3 (now (stops .entry)) (now (coords .entry)))))
@@ -316,7 +316,7 @@ fn line_section(
         &nodes[..n],
         &ends[..f],
         coords,
-        segments,
+        points,
         space,
         numbers,
     )

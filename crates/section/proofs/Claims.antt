@@ -35,7 +35,7 @@ use Rattle.section.specs.Claims.{Small, Sound, StitchClaim, StitchSectio
 use Rattle.section.proofs.Seam.{corners-most}
 use Rattle.section.proofs.Reading.{most-256}
 
-corners-in-all : (ps : List Polygon) → corners ps ≡ length (flatten ps)
+pub corners-in-all : (ps : List Polygon) → corners ps ≡ length (flatten ps)
 unfolding flatten
 corners-in-all [] = refl
 corners-in-all (p ∷ ps) = omega (arith, corners-in-all ps, length-append p (flatten ps))
@@ -76,18 +76,18 @@ alike-in-plane t c c′ xs xs′ ps ps′ r r′ z o n tol a =
 -- ---- what an entry can answer
 
 module _ (lo hi : ℕ) where
-  sound-then : {A B : Type 0} (P : A → Type 0) (Q : B → Type 0) (o : Outcome A) (next : A → Outcome B) → Sound lo hi P o
+  pub sound-then : {A B : Type 0} (P : A → Type 0) (Q : B → Type 0) (o : Outcome A) (next : A → Outcome B) → Sound lo hi P o
       → ((a : A) → P a → Sound lo hi Q (next a)) → Sound lo hi Q (andThen o next)
   sound-then P Q (refused k) next h f = h
   sound-then P Q (found a) next h f = f a h
 
-  sound-unless : {A : Type 0} (P : A → Type 0) (k : ℕ) (t : Bool) (o : Outcome A) → lo ≤ k → k ≤ hi → (t ≡ true → Sound lo hi P o)
+  pub sound-unless : {A : Type 0} (P : A → Type 0) (k : ℕ) (t : Bool) (o : Outcome A) → lo ≤ k → k ≤ hi → (t ≡ true → Sound lo hi P o)
       → Sound lo hi P (unless k t o)
   sound-unless P k true o l h f = f refl
   sound-unless P k false o l h f = (l, h)
 
 -- 1 to 4
-sound-reading : (w : ℕ) (k : Kind) (c : List ℕ) (xs : List Float) → Sound 1 7 (λ ps. readAs w k c xs ≡ read ps) (polygonsOf (readAs w k c xs))
+pub sound-reading : (w : ℕ) (k : Kind) (c : List ℕ) (xs : List Float) → Sound 1 7 (λ ps. readAs w k c xs ≡ read ps) (polygonsOf (readAs w k c xs))
 unfolding readAs
 sound-reading w none c xs = (omega arith, omega arith)
 sound-reading w (kind n faces) c xs =
@@ -100,7 +100,7 @@ sound-reading w (kind n faces) c xs =
     by-test false y z ps = (omega arith, omega arith)
 
 -- 6
-sound-frame : (x : Framed) → Sound 1 7 (λ f. x ≡ framed f) (frameIn x)
+pub sound-frame : (x : Framed) → Sound 1 7 (λ f. x ≡ framed f) (frameIn x)
 sound-frame (framed f) = refl
 sound-frame unframed = (omega arith, omega arith)
 

@@ -16,7 +16,7 @@ use Rattle.stitch.specs.Code.{Lent}
 use Rattle.section.specs.Code.{Faces, Roomy}
 
 -- faces that end at running totals up to m have at most m corners
-corners-most : (w s : ℕ) (es : List ℕ) (m p q : ℕ) (xs : List Float) → Fit s es m p q → s + corners (facesFrom w s es xs) ≤ m
+pub corners-most : (w s : ℕ) (es : List ℕ) (m p q : ℕ) (xs : List Float) → Fit s es m p q → s + corners (facesFrom w s es xs) ≤ m
 corners-most w s [] m p q xs h = omega arith
 corners-most w s (e ∷ es) m p q xs h =
     let n = rows-length w (e - s) (drop (w * s) xs) in

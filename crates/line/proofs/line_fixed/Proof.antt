@@ -1,9 +1,11 @@
 -- `line_fixed` meets its contract. Assumes nothing.
-use Rattle.section.proofs.Reading.{fixed-scratch}
-use Rattle.line.proofs.Reading.{fixed-room}
+use Rattle.line.proofs.Reading.{fixed-lent, fixed-room}
 use borrow.Author.Needs.{needs}
 use Rattle.line.proofs.line_fixed.Statement.{statement}
 use Rattle.line.proofs.line_fixed.Tie as tie
+use Rattle.line.proofs.line_fixed.Reads as reads
+use Rattle.line.proofs.line_fixed.Lts as lts
+use Rattle.line.proofs.line_within.Reads as line-within-reads
 
 slice-aggregate-line-within : tie.Need-slice-aggregate-line-within
 slice-aggregate-line-within c = search needs
@@ -32,7 +34,7 @@ slice-aggregate-line-within-8 c = search needs
 line-within-requires : tie.Need-line-within-requires
 line-within-requires c κs =
     let other = c .before .before .before .before .before .before .before .before .before .before .before .before .before .before .pre in
-    (fixed-scratch other (search needs), fixed-room other (search needs))
+    (fixed-lent other (search needs), fixed-room other (search needs))
 
 same-length : tie.Need-same-length
 same-length c = search needs

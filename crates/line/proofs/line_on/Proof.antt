@@ -10,6 +10,9 @@ use Rattle.line.proofs.Sections.{line-fits}
 use borrow.Author.Needs.{needs}
 use Rattle.line.proofs.line_on.Statement.{statement}
 use Rattle.line.proofs.line_on.Tie as tie
+use Rattle.line.proofs.line_on.Reads as reads
+use Rattle.line.proofs.line_on.Lts as lts
+use Rattle.line.proofs.line_section.Reads as line-section-reads
 
 mul-if1 : tie.Need-mul-if1
 mul-if1 c = search needs
@@ -50,7 +53,7 @@ returns-2 c =
     let g = s .args in
     let h = c .before .before .before .before .before .before .before .before .before .before .before .before .before .before .before .before .line-section .ensures in
     gave-segments (test-passed 7 _ _ (le-leb _ _ (c .before .before .before .before .before .before .before .before .before .before .before .before .before .before .before .before .before .before .before .before .before .before .before .before .before .if1 .left))) h (c .before .before .before .before .before .before .before .before .before .before .before .before .before .before .before .before .line-section .kept .1 .1 .1 .1 .0)
-    (line-fits (frameOf (g .plane)) (g .tol) (g .m) (g .stops .now) (g .coords .now) (length (g .points .now)) (length (g .space .now)) (length (g .numbers .now)) _ (s .pre .0 .fit) (c .before .before .before .before .before .before .before .before .before .before .before .before .before .before .before .before .before .before .before .before .before .before .before .before .before .if1 .left)
+    (line-fits (frameOf (g .plane)) (g .tol) (g .m) (g .stops .now) (g .coords .now) (length (g .numbers .now)) _ (length (g .points .now)) (length (g .space .now)) (s .pre .0 .faces .fit) (c .before .before .before .before .before .before .before .before .before .before .before .before .before .before .before .before .before .before .before .before .before .before .before .before .before .if1 .left)
     (sym (segs-length 3 _ _) ∙ ap length (h .are)))
 
 pub line-on-spec : {M : Type 1} → statement M

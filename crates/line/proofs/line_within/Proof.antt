@@ -3,12 +3,16 @@ use mathlib.Core.Path.{sym}
 use native.Mathlib.Omega.{arith}
 use lib.ListN.{length}
 use lib.Seq.{length-take-le}
-use Rattle.section.proofs.Reading.{faces-few, ready, was-refused}
+use Rattle.section.proofs.Reading.{faces-few, was-refused}
 use Rattle.line.proofs.Answers.{gave-refusal, gave-same}
-use Rattle.line.proofs.Reading.{line-of-faces, line-refused, line-room}
+use Rattle.line.proofs.Reading.{line-ready, line-of-faces, line-refused, section-room}
 use borrow.Author.Needs.{needs}
 use Rattle.line.proofs.line_within.Statement.{statement}
 use Rattle.line.proofs.line_within.Tie as tie
+use Rattle.line.proofs.line_within.Reads as reads
+use Rattle.line.proofs.line_within.Lts as lts
+use Rattle.cell.proofs.read_space_cell.Reads as read-space-cell-reads
+use Rattle.line.proofs.line_faces.Reads as line-faces-reads
 
 read-space-cell-requires : tie.Need-read-space-cell-requires
 read-space-cell-requires c κs = search needs
@@ -33,8 +37,8 @@ line-faces-requires : tie.Need-line-faces-requires
 line-faces-requires c κs =
     let s = c .before .before .before .before .before .before .before .before .before .before .before .before .before .before .before .before .before .before .before .before .before .before .before .before .before .before .before .before .before .before .before .before in
     let g = s .args in (
-      ready (g .t) (g .conn .now) (g .xs .now) (c .before .before .before .before .before .before .before .before .before .before .before .before .before .before .before .before .read-space-cell .ensures) (c .before .before .before .before .before .before .before .before .before .before .corners .given .1) (s .pre .0) (omega (arith, c .before .before .before .before .before .before .before .before .before .before .before .before .before .before .before .before .read-space-cell .kept .1 .1 .1 .0)),
-      line-room (g .t) (g .conn .now) (g .xs .now) (c .before .before .before .before .before .before .before .before .before .before .before .before .before .before .before .before .read-space-cell .ensures) (c .before .before .before .before .before .before .before .before .before .before .corners .given .1) (s .pre .1),
+      line-ready (g .t) (g .conn .now) (g .xs .now) (c .before .before .before .before .before .before .before .before .before .before .before .before .before .before .before .before .read-space-cell .ensures) (c .before .before .before .before .before .before .before .before .before .before .corners .given .1) (s .pre .0) (omega (arith, c .before .before .before .before .before .before .before .before .before .before .before .before .before .before .before .before .read-space-cell .kept .1 .1 .1 .0)),
+      section-room (g .t) (g .conn .now) (g .xs .now) (c .before .before .before .before .before .before .before .before .before .before .before .before .before .before .before .before .read-space-cell .ensures) (c .before .before .before .before .before .before .before .before .before .before .corners .given .1) (s .pre .1),
     )
 
 same-length : tie.Need-same-length

@@ -1,0 +1,33 @@
+-- `cicelybeam_plane_cell_by_direction` meets its contract. Assumes nothing.
+use native.Mathlib.Omega.{arith}
+use lib.ListN.{length}
+use Rattle.vector.specs.Vector.{normalAlong}
+use Rattle.line.proofs.Claims.{plane-cell-sound}
+use Rattle.cicelybeam.proofs.Exports.{line-small, line-retold}
+use borrow.Author.Needs.{needs}
+use Rattle.cicelybeam.proofs.cicelybeam_plane_cell_by_direction.Statement.{statement}
+use Rattle.cicelybeam.proofs.cicelybeam_plane_cell_by_direction.Tie as tie
+use Rattle.cicelybeam.proofs.cicelybeam_plane_cell_by_direction.Reads as reads
+use Rattle.cicelybeam.proofs.cicelybeam_plane_cell_by_direction.Lts as lts
+use Rattle.cicelybeam.proofs.told_line.Reads as told-line-reads
+use Rattle.line.proofs.slice_line.Reads as slice-line-reads
+
+slice-line-requires : tie.Need-slice-line-requires
+slice-line-requires c κs = search needs
+
+told-line-requires : tie.Need-told-line-requires
+told-line-requires c κs =
+    let g = c .before .before .before .before .before .before .before .before .before .args in
+    line-small (c .before .before .slice-line .ensures) 384
+    (plane-cell-sound normalAlong (g .kind) (g .conn .now) (g .coords .now) (g .origin .now) (g .direction .now) (g .tol) (length (g .numbers .now))) (omega arith)
+
+same-length : tie.Need-same-length
+same-length c = search needs
+
+returns : tie.Need-returns
+returns c =
+    line-retold (c .before .before .before .slice-line .ensures) (c .told-line .ensures)
+
+pub cicelybeam-plane-cell-by-direction-spec : {M : Type 1} → statement M
+cicelybeam-plane-cell-by-direction-spec =
+    tie.close (tie.spec slice-line-requires told-line-requires same-length returns)
