@@ -2,14 +2,11 @@
 use mathlib.Core.Path.{sym}
 use lib.Seq.{length-take-le}
 use Rattle.vector.specs.View.{frameOf}
+use Rattle.line.proofs.Answers.{segments-same}
 use Rattle.line.proofs.Sections.{ends-there, line-of, loops-ready, nodes-there}
 use borrow.Author.Needs.{needs}
 use Rattle.line.proofs.line_section.Statement.{statement}
 use Rattle.line.proofs.line_section.Tie as tie
-use Rattle.line.proofs.line_section.Reads as reads
-use Rattle.line.proofs.line_section.Lts as lts
-use Rattle.line.proofs.cut_loops.Reads as cut-loops-reads
-use Rattle.section.proofs.stitch_faces.Reads as stitch-faces-reads
 
 stitch-faces-requires : tie.Need-stitch-faces-requires
 stitch-faces-requires c κs = search needs
@@ -60,7 +57,7 @@ same-length-8 c = search needs
 returns : tie.Need-returns
 returns c =
     let g = c .before .before .before .before .before .before .before .before .before .before .before .before .before .before .before .before .before .before .before .before .before .before .before .before .before .before .before .before .before .before .before .before .before .before .before .before .before .before .before .before .before .before .before .before .before .args in
-    rw (line-of (c .before .before .before .before .before .before .before .before .before .before .before .before .before .before .before .before .before .before .before .before .before .before .before .before .before .before .before .before .stitch-faces .ensures) (frameOf (g .plane)) (g .tol)) at (c .before .before .before .before .before .before .before .before .cut-loops .ensures)
+    segments-same (line-of (c .before .before .before .before .before .before .before .before .before .before .before .before .before .before .before .before .before .before .before .before .before .before .before .before .before .before .before .before .stitch-faces .ensures) (frameOf (g .plane)) (g .tol)) (c .before .before .before .before .before .before .before .before .cut-loops .ensures)
 
 pub line-section-spec : {M : Type 1} → statement M
 line-section-spec =
