@@ -26,6 +26,11 @@ gave-segments {w = w} {r = r} {zs = zs} e h l room =
       numbers-are = segments-over h l room;
     })
 
--- another way to say the outcome
+-- another way to say the segments
+pub segments-same : {w : ℕ} {xs : List Float} {ss ss′ : List Seg} {r : ℕ} {zs : List Float} → ss ≡ ss′ → Segments w xs ss r zs
+    → Segments w xs ss′ r zs
+segments-same e h = record { are = h .are ∙ e; rest = h .rest }
+
+-- and the outcome
 pub gave-same : {o o′ : Outcome (List Seg)} {r : ToldLine} {xs zs : List Float} → o ≡ o′ → GaveLine o′ r xs zs → GaveLine o r xs zs
 gave-same e g = rw e g

@@ -65,9 +65,8 @@ module _ (t : ℕ) (c : List ℕ) (xs : List Float) {r : Reading} {coords coords
       let p = R.cell t c xs h e in
       let n : length (flatten (p .polygons)) ≤ spaceMost t = corners-most t c xs (p .polygons) (p .is) in
       let k = p .corners in
-      let a = y .for-clipped in
       let b = y .for-flat in
-      record { faces = R.ready t c xs h e (y .scratch) l; for-clipped = omega arith; for-flat = omega arith }
+      record { faces = R.ready t c xs h e (y .scratch) l; for-flat = omega arith }
 
 -- every type but PHED has the room of TET4's tier
 pub fixed-room : {t : ℕ} {numbers : List Float} {nodes ends : List ℕ} → (t ≡ 18 → ⊥) → Roomy (spaceMost 12) numbers nodes ends
@@ -80,7 +79,7 @@ pub fixed-lent : {t : ℕ} {stops : List ℕ} {coords points space segments : Li
     → LentFor 12 stops coords points space segments → LentFor t stops coords points space segments
 fixed-lent {t} h y =
     let e : spaceMost t ≡ 24 = rw (ne-eqb t 18 h) in
-    record { scratch = R.fixed-scratch h (y .scratch); for-clipped = rw e (y .for-clipped); for-flat = rw e (y .for-flat) }
+    record { scratch = R.fixed-scratch h (y .scratch); for-flat = rw e (y .for-flat) }
 
 -- ---- a cell in the plane
 

@@ -172,11 +172,11 @@ line-fits f tol m stops coords a r p q h room e =
 -- ---- what the cut of the loops needs
 
 pub loops-ready : (f : Frame) (tol : Float) {m : ℕ} {stops : List ℕ} {coords points space segments : List Float} {welded : List Float}
-    {nodes ends : List ℕ} {r : Stitched} {welded′ points′ space′ numbers : List Float} {nodes′ ends′ : List ℕ}
+    {nodes ends : List ℕ} {r : Stitched} {welded′ segments′ space′ numbers : List Float} {nodes′ ends′ : List ℕ}
     → Lent m stops coords points space segments → Roomy m welded nodes ends → 14 * m ≤ length numbers
     → Gave (sectionOf f tol (facesOf 3 stops coords)) r welded welded′ nodes nodes′ ends ends′
-    → length welded′ ≡ length welded → length points′ ≡ length points → length space′ ≡ length space
-    → Loops (r .points) welded′ (take (r .nodes) nodes′) (take (r .loops) ends′) coords points′ space′ numbers
+    → length welded′ ≡ length welded → length segments′ ≡ length segments → length space′ ≡ length space
+    → Loops (r .points) welded′ (take (r .nodes) nodes′) (take (r .loops) ends′) coords segments′ space′ numbers
 loops-ready f tol {m = m} {stops = stops} {coords = coords} {points = points} {space = space} {r = r} {nodes′ = nodes′} {ends′ = ends′} h y room g lw lp ls =
     let ss = cellSegments (cutBy f tol) f (facesOf 3 stops coords) in
     let a = stitched tol ss in
@@ -188,7 +188,7 @@ loops-ready f tol {m = m} {stops = stops} {coords = coords} {points = points} {s
     let m256 = h .faces .few in
     let w = y .for-numbers in
     let x = h .faces .for-corners in
-    let p = h .for-clipped in
+    let p = h .faces .for-segments in
     let q = h .for-flat in
     let n : length (take (r .nodes) nodes′) ≡ length (flatten (a .loops)) = ap length (nodes-taken g) in
     record {

@@ -39,16 +39,15 @@ lineIn tol m a ps f = unless 7 (leb (14 * m) a) (found (lineOfSection f tol (sec
 abbrev pub linePolygons : List Float → List Float → Float → ℕ → ℕ → List Polygon → Outcome (List Seg)
 linePolygons o d tol m a ps = andThen (placedBy 3 o d (frameIn (lineOf o d))) (lineIn tol m a ps)
 
--- faces with m corners, and room in the same slices for what is worked out of the section's loops
+-- faces with m corners, and room in the same slices for what is worked out of the section's loops: the slices for the corners and for the
+-- cell's segments hold a loop's points and its clipped points
 pub record Lent (m : ℕ) (stops : List ℕ) (coords points space segments : List Float) : Type 0 where
   pub faces : Faces m stops coords points space segments
-  pub for-clipped : 3 * atMost m ≤ length points
   pub for-flat : 6 * atMost m ≤ length space
 
 -- such room for a cell of type number t
 pub record LentFor (t : ℕ) (stops : List ℕ) (coords points space segments : List Float) : Type 0 where
   pub scratch : Scratch t stops coords points space segments
-  pub for-clipped : 3 * atMost (spaceMost t) ≤ length points
   pub for-flat : 6 * atMost (spaceMost t) ≤ length space
 
 -- the plane that holds the line, or why there is none

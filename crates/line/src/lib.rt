@@ -117,7 +117,7 @@ fn line_fixed(
 {
     let mut coords = [0.0f64; 72];
     let mut stops = [0usize; 6];
-    let mut points = [0.0f64; 108];
+    let mut points = [0.0f64; 18];
     let mut space = [0.0f64; 216];
     let mut segments = [0.0f64; 144];
     let mut welded = [0.0f64; 144];
@@ -271,7 +271,7 @@ fn line_on(
 }
 
 // The section of faces with m corners by a plane, and each of its loops cut by y = 0. What was lent for the corners,
-// the clipped points and the segments of faces serves the loops afterwards.
+// and for the segments of the cell and of a face, serves the loops afterwards.
 fn line_section(
     plane: Plane,
     tol: f64,
@@ -316,7 +316,7 @@ fn line_section(
         &nodes[..n],
         &ends[..f],
         coords,
-        points,
+        segments,
         space,
         numbers,
     )

@@ -3,8 +3,6 @@ use mathlib.Core.Path.{refl}
 use lib.Ieee.{ofBits}
 use Rattle.line.proofs.axis.Statement.{statement}
 use Rattle.line.proofs.axis.Tie as tie
-use Rattle.line.proofs.axis.Reads as reads
-use Rattle.line.proofs.axis.Lts as lts
 
 returns : tie.Need-returns
 unfolding ofBits

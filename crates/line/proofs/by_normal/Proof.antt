@@ -5,11 +5,6 @@ use Rattle.line.proofs.LineBy.{line-made, line-origin-long, line-vector
 use borrow.Author.Needs.{needs}
 use Rattle.line.proofs.by_normal.Statement.{statement}
 use Rattle.line.proofs.by_normal.Tie as tie
-use Rattle.line.proofs.by_normal.Reads as reads
-use Rattle.line.proofs.by_normal.Lts as lts
-use Rattle.line.proofs.with_normal.Reads as with-normal-reads
-use Rattle.vector.proofs.Vec2.unit.Reads as unit-reads
-use Rattle.vector.proofs.point2.Reads as point2-reads
 
 returns : tie.Need-returns
 returns c =

@@ -8,9 +8,6 @@ use Rattle.line.proofs.Answers.{gave-refusal, gave-segments}
 use borrow.Author.Needs.{needs}
 use Rattle.line.proofs.cut_by.Statement.{statement}
 use Rattle.line.proofs.cut_by.Tie as tie
-use Rattle.line.proofs.cut_by.Reads as reads
-use Rattle.line.proofs.cut_by.Lts as lts
-use Rattle.clip.proofs.plane.plane_section_segments.Reads as plane-section-segments-reads
 
 mul-if1 : tie.Need-mul-if1
 mul-if1 c = search needs

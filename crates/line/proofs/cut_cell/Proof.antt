@@ -3,10 +3,6 @@
 use borrow.Author.Needs.{needs}
 use Rattle.line.proofs.cut_cell.Statement.{statement}
 use Rattle.line.proofs.cut_cell.Tie as tie
-use Rattle.line.proofs.cut_cell.Reads as reads
-use Rattle.line.proofs.cut_cell.Lts as lts
-use Rattle.line.proofs.cut_fixed.Reads as cut-fixed-reads
-use Rattle.line.proofs.cut_pgon.Reads as cut-pgon-reads
 
 cut-pgon-requires : tie.Need-cut-pgon-requires
 cut-pgon-requires c κs = search needs

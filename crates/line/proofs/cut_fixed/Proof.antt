@@ -4,9 +4,6 @@ use Rattle.line.proofs.Reading.{most-4}
 use borrow.Author.Needs.{needs}
 use Rattle.line.proofs.cut_fixed.Statement.{statement}
 use Rattle.line.proofs.cut_fixed.Tie as tie
-use Rattle.line.proofs.cut_fixed.Reads as reads
-use Rattle.line.proofs.cut_fixed.Lts as lts
-use Rattle.line.proofs.cut_within.Reads as cut-within-reads
 
 slice-aggregate-cut-within : tie.Need-slice-aggregate-cut-within
 slice-aggregate-cut-within c = search needs

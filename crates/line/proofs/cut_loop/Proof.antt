@@ -1,16 +1,15 @@
 -- `cut_loop` meets its contract. Assumes nothing.
+use mathlib.Core.Path.{ap}
+use mathlib.Core.List.{_++_, map}
 use native.Mathlib.Omega.{arith}
-use Rattle.vector.specs.Rows.{rows}
+use Rattle.vector.specs.Rows.{rows, segs}
+use Rattle.vector.specs.View.{frameOf}
+use Rattle.section.specs.Entries.{segmentOnLine}
+use Rattle.line.proofs.Answers.{segments-same}
 use Rattle.line.proofs.LoopsCut.{loop-few, loop-segments}
 use borrow.Author.Needs.{needs}
 use Rattle.line.proofs.cut_loop.Statement.{statement}
 use Rattle.line.proofs.cut_loop.Tie as tie
-use Rattle.line.proofs.cut_loop.Reads as reads
-use Rattle.line.proofs.cut_loop.Lts as lts
-use Rattle.clip.proofs.plane.plane_section_segments.Reads as plane-section-segments-reads
-use Rattle.line.proofs.axis.Reads as axis-reads
-use Rattle.line.proofs.loop_points.Reads as loop-points-reads
-use Rattle.line.proofs.put_on_line.Reads as put-on-line-reads
 
 loop-points-requires : tie.Need-loop-points-requires
 loop-points-requires c κs = search needs
@@ -49,7 +48,7 @@ returns c =
     let g = s .args in
     let ps = rows 2 (g .p) (g .points .now) in
     let h = loop-segments (g .tol) ps (g .nodes .now) (c .before .before .before .before .before .before .before .before .before .before .before .before .axis .ensures) (c .before .before .before .before .before .before .before .before .before .before .before .before .before .before .before .before .loop-points .ensures) (c .before .before .before .before .before .before .before .before .before .plane-section-segments .ensures) in
-    rw (h .are) at (c .before .before .put-on-line .ensures)
+    segments-same (ap (λ l. segs 3 (g .from) (g .numbers .now) ++ map (segmentOnLine (frameOf (g .plane))) l) (h .are)) (c .before .before .put-on-line .ensures)
 
 pub cut-loop-spec : {M : Type 1} → statement M
 cut-loop-spec =

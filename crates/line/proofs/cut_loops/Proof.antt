@@ -9,10 +9,6 @@ use Rattle.line.proofs.LoopsCut.{LoopsCut, loop-from, loop-ready, loop-
 use borrow.Author.Needs.{needs}
 use Rattle.line.proofs.cut_loops.Statement.{statement}
 use Rattle.line.proofs.cut_loops.Tie as tie
-use Rattle.line.proofs.cut_loops.Reads as reads
-use Rattle.line.proofs.cut_loops.Lts as lts
-use Rattle.line.proofs.cut_loop.Reads as cut-loop-reads
-use Rattle.line.proofs.wide.Reads as wide-reads
 
 abbrev Inv-loop : tie.InvT-loop
 Inv-loop plane tol points p nodes ends polygon₀ clipped₀ flat₀ numbers₀ k₀ s₀ i₀ polygon clipped flat numbers k s i =

@@ -4,9 +4,6 @@ use Rattle.line.proofs.LineBy.{line-placed, unplaced}
 use borrow.Author.Needs.{needs}
 use Rattle.line.proofs.cut_polygon.Statement.{statement}
 use Rattle.line.proofs.cut_polygon.Tie as tie
-use Rattle.line.proofs.cut_polygon.Reads as reads
-use Rattle.line.proofs.cut_polygon.Lts as lts
-use Rattle.line.proofs.cut_by.Reads as cut-by-reads
 
 enum-known-by : tie.Need-enum-known-by
 enum-known-by c = search needs

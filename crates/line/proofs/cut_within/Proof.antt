@@ -7,10 +7,6 @@ use Rattle.line.proofs.Reading.{cell-cut, cell-refused, polygon-in, was
 use borrow.Author.Needs.{needs}
 use Rattle.line.proofs.cut_within.Statement.{statement}
 use Rattle.line.proofs.cut_within.Tie as tie
-use Rattle.line.proofs.cut_within.Reads as reads
-use Rattle.line.proofs.cut_within.Lts as lts
-use Rattle.cell.proofs.read_plane_cell.Reads as read-plane-cell-reads
-use Rattle.line.proofs.cut_polygon.Reads as cut-polygon-reads
 
 read-plane-cell-requires : tie.Need-read-plane-cell-requires
 read-plane-cell-requires c κs = search needs

@@ -8,10 +8,6 @@ use Rattle.line.proofs.Answers.{gave-refusal, gave-same}
 use borrow.Author.Needs.{needs}
 use Rattle.line.proofs.line_faces.Statement.{statement}
 use Rattle.line.proofs.line_faces.Tie as tie
-use Rattle.line.proofs.line_faces.Reads as reads
-use Rattle.line.proofs.line_faces.Lts as lts
-use Rattle.line.proofs.line_on.Reads as line-on-reads
-use Rattle.line.proofs.place.Reads as place-reads
 
 place-requires : tie.Need-place-requires
 place-requires c κs = search needs

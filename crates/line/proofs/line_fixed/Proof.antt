@@ -3,9 +3,6 @@ use Rattle.line.proofs.Reading.{fixed-lent, fixed-room}
 use borrow.Author.Needs.{needs}
 use Rattle.line.proofs.line_fixed.Statement.{statement}
 use Rattle.line.proofs.line_fixed.Tie as tie
-use Rattle.line.proofs.line_fixed.Reads as reads
-use Rattle.line.proofs.line_fixed.Lts as lts
-use Rattle.line.proofs.line_within.Reads as line-within-reads
 
 slice-aggregate-line-within : tie.Need-slice-aggregate-line-within
 slice-aggregate-line-within c = search needs

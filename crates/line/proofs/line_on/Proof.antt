@@ -10,9 +10,6 @@ use Rattle.line.proofs.Sections.{line-fits}
 use borrow.Author.Needs.{needs}
 use Rattle.line.proofs.line_on.Statement.{statement}
 use Rattle.line.proofs.line_on.Tie as tie
-use Rattle.line.proofs.line_on.Reads as reads
-use Rattle.line.proofs.line_on.Lts as lts
-use Rattle.line.proofs.line_section.Reads as line-section-reads
 
 mul-if1 : tie.Need-mul-if1
 mul-if1 c = search needs

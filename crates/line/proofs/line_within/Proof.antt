@@ -9,10 +9,6 @@ use Rattle.line.proofs.Reading.{line-ready, line-of-faces, line-refused
 use borrow.Author.Needs.{needs}
 use Rattle.line.proofs.line_within.Statement.{statement}
 use Rattle.line.proofs.line_within.Tie as tie
-use Rattle.line.proofs.line_within.Reads as reads
-use Rattle.line.proofs.line_within.Lts as lts
-use Rattle.cell.proofs.read_space_cell.Reads as read-space-cell-reads
-use Rattle.line.proofs.line_faces.Reads as line-faces-reads
 
 read-space-cell-requires : tie.Need-read-space-cell-requires
 read-space-cell-requires c κs = search needs

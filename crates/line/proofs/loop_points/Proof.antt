@@ -9,11 +9,6 @@ use Rattle.stitch.proofs.Buffers.{point-is}
 use Rattle.line.proofs.Corners.{Listing, listing-end, listing-start, listing-step}
 use Rattle.line.proofs.loop_points.Statement.{statement}
 use Rattle.line.proofs.loop_points.Tie as tie
-use Rattle.line.proofs.loop_points.Reads as reads
-use Rattle.line.proofs.loop_points.Lts as lts
-use Rattle.line.proofs.wide.Reads as wide-reads
-use Rattle.vector.proofs.point2.Reads as point2-reads
-use Rattle.vector.proofs.put2.Reads as put2-reads
 
 abbrev Inv-loop : tie.InvT-loop
 Inv-loop points p nodes out₀ i₀ out i = Listing (rows 2 p points) nodes out₀ i out

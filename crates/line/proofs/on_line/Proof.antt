@@ -5,10 +5,6 @@ use Rattle.vector.specs.Vector.{plus}
 use borrow.Author.Needs.{needs}
 use Rattle.line.proofs.on_line.Statement.{statement}
 use Rattle.line.proofs.on_line.Tie as tie
-use Rattle.line.proofs.on_line.Reads as reads
-use Rattle.line.proofs.on_line.Lts as lts
-use Rattle.vector.proofs.Vec3.plus.Reads as plus-reads
-use Rattle.vector.proofs.Vec3.scaled.Reads as scaled-reads
 
 scaled-requires : tie.Need-scaled-requires
 scaled-requires c κs = search needs

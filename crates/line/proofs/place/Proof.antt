@@ -7,10 +7,6 @@ use Rattle.section.proofs.Outcomes.{origin-long, vector-long, frame-made}
 use borrow.Author.Needs.{needs}
 use Rattle.line.proofs.place.Statement.{statement}
 use Rattle.line.proofs.place.Tie as tie
-use Rattle.line.proofs.place.Reads as reads
-use Rattle.line.proofs.place.Lts as lts
-use Rattle.vector.proofs.Plane.of_line.Reads as of-line-reads
-use Rattle.vector.proofs.point3.Reads as point3-reads
 
 returns : tie.Need-returns
 returns c =

@@ -8,11 +8,6 @@ use Rattle.section.specs.Entries.{segmentOnLine}
 use Rattle.line.proofs.Carrying.{Carrying, carrying-end, carrying-start, carrying-step, on-line-ends}
 use Rattle.line.proofs.put_on_line.Statement.{statement}
 use Rattle.line.proofs.put_on_line.Tie as tie
-use Rattle.line.proofs.put_on_line.Reads as reads
-use Rattle.line.proofs.put_on_line.Lts as lts
-use Rattle.line.proofs.on_line.Reads as on-line-reads
-use Rattle.vector.proofs.point2.Reads as point2-reads
-use Rattle.vector.proofs.put3.Reads as put3-reads
 
 abbrev Inv-loop : tie.InvT-loop
 Inv-loop flat k plane out₀ from i₀ out i = Carrying (segmentOnLine (frameOf plane)) 2 3 k flat from out₀ i out

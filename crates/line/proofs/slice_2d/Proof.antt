@@ -6,10 +6,6 @@ use Rattle.line.proofs.LineBy.{placed-first}
 use borrow.Author.Needs.{needs}
 use Rattle.line.proofs.slice_2d.Statement.{statement}
 use Rattle.line.proofs.slice_2d.Tie as tie
-use Rattle.line.proofs.slice_2d.Reads as reads
-use Rattle.line.proofs.slice_2d.Lts as lts
-use Rattle.line.proofs.by_normal.Reads as by-normal-reads
-use Rattle.line.proofs.cut_cell.Reads as cut-cell-reads
 
 by-normal-requires : tie.Need-by-normal-requires
 by-normal-requires c κs = search needs

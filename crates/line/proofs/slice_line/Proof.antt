@@ -6,10 +6,6 @@ use Rattle.line.proofs.LineBy.{placed-first}
 use borrow.Author.Needs.{needs}
 use Rattle.line.proofs.slice_line.Statement.{statement}
 use Rattle.line.proofs.slice_line.Tie as tie
-use Rattle.line.proofs.slice_line.Reads as reads
-use Rattle.line.proofs.slice_line.Lts as lts
-use Rattle.line.proofs.by_direction.Reads as by-direction-reads
-use Rattle.line.proofs.cut_cell.Reads as cut-cell-reads
 
 by-direction-requires : tie.Need-by-direction-requires
 by-direction-requires c κs = search needs

@@ -6,10 +6,6 @@ use Rattle.line.proofs.Answers.{gave-same}
 use borrow.Author.Needs.{needs}
 use Rattle.line.proofs.slice_line_3d.Statement.{statement}
 use Rattle.line.proofs.slice_line_3d.Tie as tie
-use Rattle.line.proofs.slice_line_3d.Reads as reads
-use Rattle.line.proofs.slice_line_3d.Lts as lts
-use Rattle.line.proofs.line_fixed.Reads as line-fixed-reads
-use Rattle.line.proofs.line_phed.Reads as line-phed-reads
 
 line-phed-requires : tie.Need-line-phed-requires
 line-phed-requires c κs = search needs

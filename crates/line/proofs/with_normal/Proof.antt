@@ -3,8 +3,6 @@
 use borrow.Author.Needs.{needs}
 use Rattle.line.proofs.with_normal.Statement.{statement}
 use Rattle.line.proofs.with_normal.Tie as tie
-use Rattle.line.proofs.with_normal.Reads as reads
-use Rattle.line.proofs.with_normal.Lts as lts
 
 enum-known-normal : tie.Need-enum-known-normal
 enum-known-normal c = search needs
