@@ -45,13 +45,13 @@ pub fn stitch_segments(
     ensures { λ r. ⌜ Stitches (mul binary64 tol tol) (segs 2 s (now (segments .entry))) r (now (points .entry))
         (now (points .exit)) (now (nodes .entry)) (now (nodes .exit)) (now (ends .entry)) (now (ends .exit)) ⌝ }
 {
-    if s <= 36 {
+    if s <= 16 {
         return stitch_few(segments, s, tol, points, nodes, ends);
     }
     stitch_many(segments, s, tol, points, nodes, ends)
 }
 
-// Stitches at most 36 segments, as many as a tetrahedron, a wedge or a brick can give.
+// Stitches at most 16 segments, as most cells give: small tables take less time to clear.
 fn stitch_few(
     segments: &[f64],
     s: usize,
@@ -60,15 +60,15 @@ fn stitch_few(
     nodes: &mut [u32],
     ends: &mut [u32],
 ) -> Stitched
-    requires { ⌜ Lent s (now segments) (now points) (now nodes) (now ends) × (s ≤ 36) ⌝ }
+    requires { ⌜ Lent s (now segments) (now points) (now nodes) (now ends) × (s ≤ 16) ⌝ }
     ensures { λ r. ⌜ Stitches (mul binary64 tol tol) (segs 2 s (now (segments .entry))) r (now (points .entry))
         (now (points .exit)) (now (nodes .entry)) (now (nodes .exit)) (now (ends .entry)) (now (ends .exit)) ⌝ }
 {
-    let mut smaller = [0u32; 36];
-    let mut larger = [0u32; 36];
+    let mut smaller = [0u32; 16];
+    let mut larger = [0u32; 16];
     let mut used = [false; 384];
-    let mut walked = [0u32; 37];
-    let mut last = [0u16; 72];
+    let mut walked = [0u32; 17];
+    let mut last = [0u16; 32];
     stitch_within(
         segments,
         s,
