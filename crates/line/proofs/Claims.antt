@@ -1,5 +1,5 @@
 -- A line cut refuses with a number from 1 to 7 or gives few segments. Assumes nothing.
-use mathlib.Core.Path.{_≡_, refl, sym, ap, _∙_}
+use mathlib.Core.Path.{_≡_, refl, ap}
 use mathlib.Core.List.{List, [], _∷_, flatten}
 use mathlib.Core.Bool.{_&&_}
 use Prim.Native.Nat.{ℕ, _*_, _≤_}
@@ -7,13 +7,13 @@ use native.Mathlib.Omega.{arith}
 use lib.Dec.{eqb, leb}
 use lib.Ieee.{Float}
 use lib.ListN.{length}
-use Rattle.vector.specs.Vector.{Direction, along, nowhere, Frame, framed, lineOf}
+use Rattle.vector.specs.Vector.{Direction, along, nowhere, framed, lineOf}
 use Rattle.vector.specs.Rows.{Seg}
 use Rattle.cell.specs.Types.{planeType, spaceType}
 use Rattle.cell.specs.Read.{Polygon, planeCell, planeKind, read, spaceCell, spaceKind}
 use Rattle.clip.specs.Clip.{Cut}
 use Rattle.clip.proofs.Bound.{section-bound}
-use Rattle.section.specs.Outcome.{Outcome, found, andThen, unless}
+use Rattle.section.specs.Outcome.{found, andThen, unless}
 use Rattle.section.specs.Entries.{frameIn, lineOfSection, normalIn, placedBy, polygonSegments, polygonsOf, sectionOf}
 use Rattle.section.specs.Claims.{Sound}
 use Rattle.section.proofs.Claims.{corners-in-all, sound-frame, sound-reading, sound-then, sound-unless}

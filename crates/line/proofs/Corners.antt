@@ -5,10 +5,10 @@ use Prim.Native.Nat.{ℕ, suc, _+_, _*_, _≤_, _<_}
 use native.Mathlib.Numerals.{add-one}
 use native.Mathlib.Omega.{arith}
 use lib.Ieee.{Float}
-use lib.ListN.{length, getD, take, drop}
+use lib.ListN.{length, getD, take}
 use lib.Seq.{take-suc, take-all}
 use Rattle.vector.specs.Vector.{Vector}
-use Rattle.vector.specs.Rows.{put, rows}
+use Rattle.vector.specs.Rows.{put}
 use Rattle.vector.proofs.Rows.{drop-later, rest-put, rows-put}
 use Rattle.clip.specs.Code.{Points}
 use Rattle.stitch.specs.Walk.{pointAt}

@@ -7,7 +7,7 @@ use lib.Ieee.{Float}
 use lib.ListN.{length}
 use Rattle.vector.specs.Vector.{Vector, Direction}
 use Rattle.vector.specs.Rows.{Seg, row}
-use Rattle.cell.specs.Read.{Polygon, planeCell}
+use Rattle.cell.specs.Read.{planeCell}
 use Rattle.clip.specs.Clip.{Cut}
 use Rattle.clip.specs.View.{cut2}
 use Rattle.clip.specs.declared.plane.Cut as pc

@@ -3,19 +3,18 @@
 use mathlib.Core.Path.{_≡_, refl, sym, ap, _∙_, subst}
 use mathlib.Core.List.{List, [], _∷_, _++_, flatten, map}
 use mathlib.Core.Bool.{Bool, true, false}
-use Prim.Native.Nat.{ℕ, zero, suc, _+_, _-_, _*_, _/_, _≤_, _<_, min, max}
+use Prim.Native.Nat.{ℕ, zero, suc, _+_, _-_, _*_, _≤_, _<_, min, max}
 use native.Mathlib.Omega.{arith}
 use native.Mathlib.Nat.{zero-add}
 use borrow.Author.Tests.{ltb-false, ltb-true}
 use lib.Dec.{ltb}
 use lib.Ieee.{Float, binary64, mul}
-use lib.ListN.{length, getD, take, drop, length-append, length-map}
+use lib.ListN.{length, take, drop, length-append, length-map}
 use lib.Seq.{take-at, drop-at}
 use Rattle.vector.specs.Vector.{Vector, Frame}
 use Rattle.vector.specs.Rows.{Seg, endsFrom, rows}
-use Rattle.vector.proofs.Rows.{rows-length}
 use Rattle.cell.proofs.Lists.{length-ends}
-use Rattle.clip.specs.Cell.{atMost, cellSegments, corners, cutBy, facesFrom, facesOf}
+use Rattle.clip.specs.Cell.{atMost, cellSegments, corners, cutBy, facesOf}
 use Rattle.clip.proofs.Bound.{cell-bound}
 use Rattle.clip.specs.Code.{Fit}
 use Rattle.weld.specs.Weld.{Edge, Within, between, listed, listedEdges, weldedPoints}
