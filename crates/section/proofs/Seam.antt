@@ -3,7 +3,7 @@
 use mathlib.Core.Path.{_≡_, refl, sym, ap, _∙_, subst}
 use mathlib.Core.List.{List, [], _∷_, _++_, append-assoc, append-nil, map, flatten}
 use mathlib.Core.Bool.{Bool, true, false, cond}
-use Prim.Native.Nat.{ℕ, zero, suc, _+_, _-_, _*_, _/_, _%_, _≤_, _<_}
+use Prim.Native.Nat.{ℕ, zero, suc, _+_, _-_, _*_, _/_, _%_, _≤_}
 use native.Mathlib.Omega.{arith}
 use native.Mathlib.Nat.{mul-suc, mul-zero, zero-add}
 use borrow.Author.Tests.{eqb-false}
@@ -15,7 +15,7 @@ use lib.Seq.{drop-drop, take-at, drop-at}
 use Rattle.vector.specs.Rows.{rows, endsFrom, over}
 use Rattle.cell.specs.Types.{allow, spaceNumber, spaceType, spaceNodes, shapeOf, planeType, planeNodes, planeCorners}
 use Rattle.cell.specs.Faces.{Face, facesOf as facesIn, from, polygonOf}
-use Rattle.cell.specs.Read.{corner, areRows, Polygon, polygons, Kind, none, kind, refused, read, inOrder, readAs, spaceKind, planeKind}
+use Rattle.cell.specs.Read.{corner, areRows, Polygon, polygons, Kind, none, kind, read, inOrder, readAs, spaceKind, planeKind}
 use Rattle.cell.specs.Read.{spaceCell, planeCell, planeMost, spaceMost}
 use Rattle.cell.specs.Claims.{CornersKept}
 use Rattle.cell.specs.declared.SpaceType.{SpaceType}
