@@ -1,7 +1,7 @@
 -- The section of a cell is ready to be cut by y = 0: its nodes are points of it, its loops end at running totals, and the slices that
 -- were lent for the section hold what comes of them. Assumes nothing.
 use mathlib.Core.Path.{_≡_, refl, sym, ap, _∙_, subst}
-use mathlib.Core.List.{List, [], _∷_, _++_, flatten, map}
+use mathlib.Core.List.{List, [], _∷_, _++_, append-nil, flatten, map}
 use mathlib.Core.Bool.{Bool, true, false}
 use Prim.Native.Nat.{ℕ, zero, suc, _+_, _-_, _*_, _≤_, _<_, min, max}
 use native.Mathlib.Omega.{arith}
@@ -10,7 +10,7 @@ use borrow.Author.Tests.{ltb-false, ltb-true}
 use lib.Dec.{ltb}
 use lib.Ieee.{Float, binary64, mul}
 use lib.ListN.{length, take, drop, length-append, length-map}
-use lib.Seq.{take-at, drop-at}
+use lib.Seq.{take-at}
 use Rattle.vector.specs.Vector.{Vector, Frame}
 use Rattle.vector.specs.Rows.{Seg, endsFrom, rows}
 use Rattle.cell.proofs.Lists.{length-ends}
@@ -24,6 +24,7 @@ use Rattle.stitch.specs.Code.{Below, cut, Gave}
 use Rattle.stitch.specs.Stitch.{Answer, stitched}
 use Rattle.stitch.specs.declared.Stitched.{Stitched}
 use Rattle.stitch.proofs.Claim.{claim}
+use Rattle.stitch.proofs.Welded.{cut-ends}
 use Rattle.section.specs.Entries.{lineOfSection, loopSegments, loopsSegments, sectionOf, segmentOnLine}
 use Rattle.section.specs.Code.{Roomy}
 use Rattle.section.proofs.Stitching.{corners-most, few-segments}
@@ -95,16 +96,6 @@ nodes-below tol ss =
 
 -- ---- what was written, as its reader takes it
 
-cut-ends : (n : ℕ) (ls : List (List ℕ)) → cut n (endsFrom n ls) (flatten ls) ≡ ls
-unfolding cut endsFrom flatten
-cut-ends n [] = refl
-cut-ends n (l ∷ ls) =
-    let e : n + length l - n ≡ length l = omega arith in
-    ap (λ k. take k (l ++ flatten ls) ∷ cut (n + length l) (endsFrom (n + length l) ls) (drop k (l ++ flatten ls))) e
-    ∙ ap (λ x. x ∷ cut (n + length l) (endsFrom (n + length l) ls) (drop (length l) (l ++ flatten ls))) (take-at l (flatten ls) (length l) refl)
-    ∙ ap (λ x. l ∷ cut (n + length l) (endsFrom (n + length l) ls) x) (drop-at l (flatten ls) (length l) refl)
-    ∙ ap (λ x. l ∷ x) (cut-ends (n + length l) ls)
-
 module _ {a : Answer} {r : Stitched} {numbers numbers′ : List Float} {nodes nodes′ ends ends′ : List ℕ}
     (g : Gave a r numbers numbers′ nodes nodes′ ends ends′) where
   pub nodes-taken : take (r .nodes) nodes′ ≡ flatten (a .loops)
@@ -134,7 +125,7 @@ module _ {a : Answer} {r : Stitched} {numbers numbers′ : List Float} {nodes no
       ap (λ ps. onLineOf f tol ps (take (r .loops) ends′) (take (r .nodes) nodes′)) (g .points-are)
       ∙ ap (λ es. onLineOf f tol (a .points) es (take (r .nodes) nodes′)) ends-taken
       ∙ ap (λ ns. onLineOf f tol (a .points) (endsFrom 0 (a .loops)) ns) nodes-taken
-      ∙ ap (λ ls. map (segmentOnLine f) (loopsSegments tol (a .points) ls)) (cut-ends 0 (a .loops))
+      ∙ ap (λ ls. map (segmentOnLine f) (loopsSegments tol (a .points) ls)) (ap (cut 0 (endsFrom 0 (a .loops))) (sym (append-nil (flatten (a .loops)))) ∙ cut-ends 0 (a .loops) [])
 
 -- ---- how many segments
 

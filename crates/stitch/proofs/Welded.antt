@@ -42,7 +42,7 @@ flatten-rows (suc n) (x ∷ y ∷ xs) h =
     rw (e, flatten-rows n xs (omega arith))
 
 -- ---- the answer read back from the buffers
-cut-ends : (n : ℕ) (ls : List (List ℕ)) (tail : List ℕ) → cut n (endsFrom n ls) (flatten ls ++ tail) ≡ ls
+pub cut-ends : (n : ℕ) (ls : List (List ℕ)) (tail : List ℕ) → cut n (endsFrom n ls) (flatten ls ++ tail) ≡ ls
 unfolding cut endsFrom flatten
 cut-ends n [] tail = refl
 cut-ends n (l ∷ ls) tail =
