@@ -6,7 +6,6 @@ use lib.Dec.{leb}
 use lib.ListN.{length}
 use lib.Ieee.{Float}
 use Rattle.vector.specs.Vector.{Vector, Direction, Frame, lineOf}
-use Rattle.vector.specs.View.{frameOf}
 use Rattle.vector.specs.Rows.{Seg}
 use Rattle.cell.specs.Read.{Polygon, planeCell, spaceMost}
 use Rattle.clip.specs.Clip.{Cut, planeSectionSegments}
@@ -19,8 +18,6 @@ use Rattle.section.specs.Entries.{sectionOf, segmentOnLine}
 use Rattle.section.specs.Code.{Faces, Scratch}
 use Rattle.line.specs.declared.Line as L
 use Rattle.line.specs.declared.Line.the-variants as l
-use Rattle.line.specs.declared.Placing as P
-use Rattle.line.specs.declared.Placing.the-variants as p
 use Rattle.line.specs.declared.Cutting as C
 use Rattle.line.specs.declared.Cutting.the-variants as c
 
@@ -49,11 +46,6 @@ pub record Lent (m : ℕ) (stops : List ℕ) (coords points space segments : Lis
 pub record LentFor (t : ℕ) (stops : List ℕ) (coords points space segments : List Float) : Type 0 where
   pub scratch : Scratch t stops coords points space segments
   pub for-flat : 6 * atMost (spaceMost t) ≤ length space
-
--- the plane that holds the line, or why there is none
-abbrev pub placing : P.Placing → Outcome Frame
-placing (p.Refused k) = refused k
-placing (p.On f) = found (frameOf f)
 
 -- the segments on the line of loops whose nodes stand in a row and end at `ends`
 abbrev pub onLineOf : Frame → Float → List Vector → List ℕ → List ℕ → List Seg

@@ -15,13 +15,14 @@ ghost use Rattle.stitch.specs.Walk.{pointAt};
 ghost use Rattle.section.specs.Outcome.{GaveLine, andThen, found};
 ghost use Rattle.section.specs.Entries.{axis, byDirection, byNormal, frameIn, lineCut, lineOfSection, loopSegments};
 ghost use Rattle.section.specs.Entries.{normalIn, onLine, placedBy, sectionOf, segmentOnLine};
-ghost use Rattle.section.specs.Code.{Roomy};
+ghost use Rattle.section.specs.Code.{Roomy, placing};
 ghost use Rattle.line.specs.Code.{Lent, LentFor, Loop, Loops, cellCut, cutting, lineBy, lineIn, linePolygons, meaning};
-ghost use Rattle.line.specs.Code.{onLineOf, placing, segmentsIn};
+ghost use Rattle.line.specs.Code.{onLineOf, segmentsIn};
 use cell::PlaneType;
 use cell::Reading;
 use cell::SpaceType;
 use clip::plane::Cut;
+use section::Placing;
 use vector::Placed;
 use vector::Plane;
 use vector::Unit2;
@@ -438,12 +439,6 @@ fn on_line(plane: Plane, a: Vec2) -> Vec3
     let o = plane.origin;
     let u = plane.u;
     o.plus(u.scaled(a.x))
-}
-
-// The number of a refusal, or the plane that holds the line.
-enum Placing {
-    Refused(u8),
-    On(Plane),
 }
 
 // The plane that holds the line through origin with this direction, or refusal 5 or 6.

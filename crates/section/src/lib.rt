@@ -351,7 +351,7 @@ fn room(x: usize, y: usize, z: usize, a: usize, b: usize, d: usize) -> bool
 }
 
 // The number of a refusal, or the plane that cuts.
-enum Placing {
+pub enum Placing {
     Refused(u8),
     On(Plane),
 }
