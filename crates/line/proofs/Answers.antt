@@ -13,7 +13,8 @@ use Rattle.line.specs.Code.{meaning}
 use Rattle.line.specs.declared.Line.the-variants.{Refused, Cut}
 
 -- a refusal leaves the buffer as it is
-pub gave-refusal : {o : Outcome (List Seg)} {k : ℕ} (numbers : List Float) → o ≡ refused k → GaveLine o (meaning (Refused k)) numbers numbers
+pub gave-refusal : {o : Outcome (List Seg)} {k : ℕ} (numbers : List Float) → o ≡ refused k → GaveLine o (meaning (Refused k)) numbers
+    numbers
 gave-refusal numbers e = rw e (record { told-is = refl; numbers-are = refl })
 
 -- segments that were written

@@ -36,7 +36,8 @@ module _ {h : Seg → Seg} {w v k : ℕ} {ps : List Float} {m : ℕ} {xs : List 
   carrying-step {a} {b} c l room e la lb ey eu lu =
       let all = map h (segs w k ps) in
       let g : getD all i (h noSeg) ≡ seg a b = List·getD-map h (segs w k ps) i noSeg ∙ ap h (segs-getD w k ps i l) ∙ e in
-      let t : take (i + 1) all ≡ take i all ++ seg a b ∷ [] = rw add-one (take-suc all i (h noSeg) (omega (arith, count h w k ps)) ∙ rw g) in
+      let t : take (i + 1) all ≡ take i all ++ seg a b ∷ [] = rw add-one (take-suc all i (h noSeg) (omega (arith, count h w k ps)) ∙ rw g)
+      in
       let two : 2 * (m + i + 1) ≤ 2 * (m + k) = omega arith in
       let r : v * (2 * (m + i + 1)) ≤ length zs = omega (arith, c .same-length, mul-le-mul-left v two) in
       let before : 2 * (m + i) ≤ 2 * (m + i + 1) = omega arith in
@@ -62,6 +63,7 @@ module _ {h : Seg → Seg} {w v k : ℕ} {ps : List Float} {m : ℕ} {xs : List 
       rw (take-all k (map h (segs w k ps)) (omega (arith, count h w k ps))) at (rw e at (c .listed))
 
 -- a segment on the line, by its ends
-pub on-line-ends : (f : Frame) {x y p q a b : Vector} → p ≡ x → a ≡ onLine f p → q ≡ y → b ≡ onLine f q → segmentOnLine f (seg x y) ≡ seg a b
+pub on-line-ends : (f : Frame) {x y p q a b : Vector} → p ≡ x → a ≡ onLine f p → q ≡ y → b ≡ onLine f q → segmentOnLine f (seg x y) ≡ seg a
+    b
 on-line-ends f {x} {y} {p} {q} {a} {b} ep ea eq eb =
     ap (λ z. seg z (onLine f y)) (sym (ea ∙ ap (onLine f) ep)) ∙ ap (λ z. seg a z) (sym (eb ∙ ap (onLine f) eq))

@@ -27,11 +27,13 @@ use Rattle.line.proofs.Reading.{most-256}
 pub line-sound : LineSound
 line-sound t c xs o d tol a =
     let P : List Seg → Type 0 = λ ss. length ss ≤ 576 in
-    sound-then 1 7 (λ ps. spaceCell t c xs ≡ read ps) P (polygonsOf (spaceCell t c xs)) (λ ps. linePolygons o d tol (length (flatten ps)) a ps)
+    sound-then 1 7 (λ ps. spaceCell t c xs ≡ read ps) P (polygonsOf (spaceCell t c xs)) (λ ps. linePolygons o d tol (length (flatten ps)) a
+    ps)
     (sound-reading 3 (spaceKind (spaceType t)) c xs)
     (λ ps r.
     sound-then 1 7 (λ f. lineOf o d ≡ framed f) P (placedBy 3 o d (frameIn (lineOf o d))) (lineIn tol (length (flatten ps)) a ps)
-    (sound-unless 1 7 (λ f. lineOf o d ≡ framed f) 5 (eqb (length o) 3 && eqb (length d) 3) (frameIn (lineOf o d)) (omega arith) (omega arith)
+    (sound-unless 1 7 (λ f. lineOf o d ≡ framed f) 5 (eqb (length o) 3 && eqb (length d) 3) (frameIn (lineOf o d)) (omega arith) (omega
+    arith)
     (λ _. sound-frame (lineOf o d)))
     (λ f e.
     sound-unless 1 7 P 7 (leb (14 * length (flatten ps)) a) (found (lineOfSection f tol (sectionOf f tol ps))) (omega arith) (omega arith)

@@ -29,7 +29,8 @@ loop-bound tol ps l = omega (arith, section-bound (axis tol) (map (pointAt ps) l
 
 -- the segments of the polygon of a loop's points are the loop's
 module _ (tol : Float) (ps : List Vector) (nodes : List ℕ) where
-  pub loop-segments : {c : Cut} {xs zs flat flat′ : List Float} {k : ℕ} → c ≡ axis tol → Points 2 xs (map (pointAt ps) nodes) (length nodes) zs
+  pub loop-segments : {c : Cut} {xs zs flat flat′ : List Float} {k : ℕ} → c ≡ axis tol → Points 2 xs (map (pointAt ps) nodes) (length nodes)
+      zs
       → Segments 2 flat (planeSectionSegments c (rows 2 (length nodes) zs)) k flat′ → Segments 2 flat (loopSegments tol ps nodes) k flat′
   loop-segments {c} e p h =
       record {
@@ -41,7 +42,8 @@ module _ (tol : Float) (ps : List Vector) (nodes : List ℕ) where
   loop-few {flat′ = flat′} {k = k} h = omega (arith, sym (segs-length 2 k flat′) ∙ ap length (h .are), loop-bound tol ps nodes)
 
 -- i of the loops are passed, s nodes and k segments
-pub record LoopsCut (f : Frame) (tol : Float) (ps : List Vector) (nodes ends : List ℕ) (xs : List Float) (i s k : ℕ) (zs : List Float) : Type 0
+pub record LoopsCut (f : Frame) (tol : Float) (ps : List Vector) (nodes ends : List ℕ) (xs : List Float) (i s k : ℕ) (zs : List Float) :
+    Type 0
   where
     pub total : onLineOf f tol ps ends nodes
         ≡ segs 3 k zs ++ map (segmentOnLine f) (loopsSegments tol ps (cut s (drop i ends) (drop s nodes)))
@@ -148,7 +150,8 @@ module _ {f : Frame} {tol : Float} {ps : List Vector} {nodes ends : List ℕ} {x
       record {
         are =
             sym
-            (v .total ∙ ap (λ l. segs 3 k zs ++ map (segmentOnLine f) (loopsSegments tol ps (cut s l (drop s nodes)))) (drop-of-length-le ends {i = i} h)
+            (v .total ∙ ap (λ l. segs 3 k zs ++ map (segmentOnLine f) (loopsSegments tol ps (cut s l (drop s nodes)))) (drop-of-length-le
+            ends {i = i} h)
             ∙ append-nil (segs 3 k zs));
         rest = v .rest;
       }

@@ -3,7 +3,7 @@
 use mathlib.Core.Path.{_≡_, refl, sym, ap, _∙_, subst}
 use mathlib.Core.List.{List, [], _∷_, _++_, append-nil, flatten, map}
 use mathlib.Core.Bool.{Bool, true, false}
-use Prim.Native.Nat.{ℕ, zero, suc, _+_, _-_, _*_, _≤_, _<_, min, max}
+use Prim.Native.Nat.{ℕ, zero, suc, _+_, _*_, _≤_, _<_, min, max}
 use native.Mathlib.Omega.{arith}
 use native.Mathlib.Nat.{zero-add}
 use borrow.Author.Tests.{ltb-false, ltb-true}
@@ -99,7 +99,8 @@ nodes-below tol ss =
 module _ {a : Answer} {r : Stitched} {numbers numbers′ : List Float} {nodes nodes′ ends ends′ : List ℕ}
     (g : Gave a r numbers numbers′ nodes nodes′ ends ends′) where
   pub nodes-taken : take (r .nodes) nodes′ ≡ flatten (a .loops)
-  nodes-taken = ap (take (r .nodes)) (g .nodes-are) ∙ take-at (flatten (a .loops)) (drop (length (flatten (a .loops))) nodes) (r .nodes) (sym (g .node-count))
+  nodes-taken = ap (take (r .nodes)) (g .nodes-are) ∙ take-at (flatten (a .loops)) (drop (length (flatten (a .loops))) nodes) (r .nodes)
+      (sym (g .node-count))
 
   pub ends-taken : take (r .loops) ends′ ≡ endsFrom 0 (a .loops)
   ends-taken =
@@ -125,7 +126,8 @@ module _ {a : Answer} {r : Stitched} {numbers numbers′ : List Float} {nodes no
       ap (λ ps. onLineOf f tol ps (take (r .loops) ends′) (take (r .nodes) nodes′)) (g .points-are)
       ∙ ap (λ es. onLineOf f tol (a .points) es (take (r .nodes) nodes′)) ends-taken
       ∙ ap (λ ns. onLineOf f tol (a .points) (endsFrom 0 (a .loops)) ns) nodes-taken
-      ∙ ap (λ ls. map (segmentOnLine f) (loopsSegments tol (a .points) ls)) (ap (cut 0 (endsFrom 0 (a .loops))) (sym (append-nil (flatten (a .loops)))) ∙ cut-ends 0 (a .loops) [])
+      ∙ ap (λ ls. map (segmentOnLine f) (loopsSegments tol (a .points) ls)) (ap (cut 0 (endsFrom 0 (a .loops))) (sym (append-nil (flatten (a
+      .loops)))) ∙ cut-ends 0 (a .loops) [])
 
 -- ---- how many segments
 
@@ -167,7 +169,8 @@ pub loops-ready : (f : Frame) (tol : Float) {m : ℕ} {stops : List ℕ} {coords
     → Gave (sectionOf f tol (facesOf 3 stops coords)) r welded welded′ nodes nodes′ ends ends′
     → length welded′ ≡ length welded → length segments′ ≡ length segments → length space′ ≡ length space
     → Loops (r .points) welded′ (take (r .nodes) nodes′) (take (r .loops) ends′) coords segments′ space′ numbers
-loops-ready f tol {m = m} {stops = stops} {coords = coords} {points = points} {space = space} {r = r} {nodes′ = nodes′} {ends′ = ends′} h y room g lw lp ls =
+loops-ready f tol {m = m} {stops = stops} {coords = coords} {points = points} {space = space} {r = r} {nodes′ = nodes′} {ends′ = ends′} h y
+    room g lw lp ls =
     let ss = cellSegments (cutBy f tol) f (facesOf 3 stops coords) in
     let a = stitched tol ss in
     let few : length ss ≤ atMost m = few-segments (cutBy f tol) f stops coords m (length points) (length space) (h .faces .fit) in

@@ -87,7 +87,8 @@ module _ (lo hi : ℕ) where
   sound-unless P k false o l h f = (l, h)
 
 -- 1 to 4
-pub sound-reading : (w : ℕ) (k : Kind) (c : List ℕ) (xs : List Float) → Sound 1 7 (λ ps. readAs w k c xs ≡ read ps) (polygonsOf (readAs w k c xs))
+pub sound-reading : (w : ℕ) (k : Kind) (c : List ℕ) (xs : List Float) → Sound 1 7 (λ ps. readAs w k c xs ≡ read ps) (polygonsOf (readAs w k
+    c xs))
 unfolding readAs
 sound-reading w none c xs = (omega arith, omega arith)
 sound-reading w (kind n faces) c xs =
@@ -113,12 +114,14 @@ few-of-cell t c xs ps r f tol =
 pub plane-sound : PlaneSound
 plane-sound t c xs o n tol a b d =
     let P = PlaneSection t c xs o n tol in
-    sound-then 1 7 (λ ps. spaceCell t c xs ≡ read ps) P (polygonsOf (spaceCell t c xs)) (λ ps. cutPolygons o n tol (length (flatten ps)) a b d ps)
+    sound-then 1 7 (λ ps. spaceCell t c xs ≡ read ps) P (polygonsOf (spaceCell t c xs)) (λ ps. cutPolygons o n tol (length (flatten ps)) a b
+    d ps)
     (sound-reading 3 (spaceKind (spaceType t)) c xs)
     (λ ps r.
     let m = length (flatten ps) in
     sound-then 1 7 (λ f. planeOf o n ≡ framed f) P (placedBy 3 o n (frameIn (planeOf o n))) (sectionIn tol m a b d ps)
-    (sound-unless 1 7 (λ f. planeOf o n ≡ framed f) 5 (eqb (length o) 3 && eqb (length n) 3) (frameIn (planeOf o n)) (omega arith) (omega arith)
+    (sound-unless 1 7 (λ f. planeOf o n ≡ framed f) 5 (eqb (length o) 3 && eqb (length n) 3) (frameIn (planeOf o n)) (omega arith) (omega
+    arith)
     (λ _. sound-frame (planeOf o n)))
     (λ f e.
     sound-unless 1 7 P 7 (room (6 * m) (3 * m / 2) (m / 2) a b d) (found (sectionOf f tol ps)) (omega arith) (omega arith)
@@ -177,7 +180,8 @@ read-back-told a r numbers numbers′ nodes nodes′ ends ends′ g =
     })
 
 -- what holds of every answer holds of the one in the buffers
-of-answer : (P : Answer → Type 0) (lo hi : ℕ) (o : Outcome Answer) (r : Told) (numbers numbers′ : List Float) (nodes nodes′ ends ends′ : List ℕ)
+of-answer : (P : Answer → Type 0) (lo hi : ℕ) (o : Outcome Answer) (r : Told) (numbers numbers′ : List Float) (nodes nodes′ ends ends′ :
+    List ℕ)
     → 1 ≤ lo → Sound lo hi P o → Gave o r numbers numbers′ nodes nodes′ ends ends′ → r .refusal ≡ 0 → P (answerIn r numbers′ nodes′ ends′)
 of-answer P lo hi (refused k) r numbers numbers′ nodes nodes′ ends ends′ l h g z =
     let e : r .refusal ≡ k = ap (λ x. x .refusal) (g .told-is) in
@@ -218,7 +222,8 @@ small-section t ss a h k =
       opened = omega arith;
     }
 
-small-told : (P : Answer → Type 0) (lo hi : ℕ) (o : Outcome Answer) → hi ≤ 8 → Sound lo hi P o → ((a : Answer) → P a → Small (toldSection a))
+small-told : (P : Answer → Type 0) (lo hi : ℕ) (o : Outcome Answer) → hi ≤ 8 → Sound lo hi P o → ((a : Answer) → P a → Small (toldSection
+    a))
     → Small (told o)
 small-told P lo hi (refused k) l h f =
     record {

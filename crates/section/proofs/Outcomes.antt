@@ -23,7 +23,13 @@ use Rattle.section.specs.Code.{counted, Roomy}
 -- a refusal leaves the buffers as they are
 pub gave-refusal : {o : Outcome Answer} {k : ℕ} (numbers : List Float) (nodes ends : List ℕ) → o ≡ refused k
     → Gave o (toldRefused k) numbers numbers nodes nodes ends ends
-gave-refusal numbers nodes ends e = rw e (record { told-is = refl; numbers-are = refl; points-are = refl; nodes-are = refl; ends-are = refl })
+gave-refusal numbers nodes ends e = rw e (record {
+  told-is = refl;
+  numbers-are = refl;
+  points-are = refl;
+  nodes-are = refl;
+  ends-are = refl;
+})
 
 -- a section is what stitching answered
 pub gave-section : {o : Outcome Answer} {a : Answer} {r : Stitched} {numbers numbers′ : List Float} {nodes nodes′ ends ends′ : List ℕ}

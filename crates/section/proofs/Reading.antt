@@ -2,7 +2,7 @@
 use mathlib.Core.Path.{_≡_, refl, sym, ap, _∙_, subst}
 use mathlib.Core.List.{List, flatten}
 use mathlib.Core.Bool.{Bool, true, false, cond}
-use Prim.Native.Nat.{ℕ, _+_, _*_, _≤_}
+use Prim.Native.Nat.{ℕ, _+_, _≤_}
 use native.Mathlib.Omega.{arith}
 use borrow.Author.Tests.{ne-eqb}
 use lib.Dec.{eqb}
@@ -87,7 +87,8 @@ module _ (t : ℕ) (c : List ℕ) (xs : List Float) {r : Reading} {coords coords
   pub faces-few : f ≤ length stops′
   faces-few =
       let es = endsFrom 0 (cell .polygons) in
-      let l : length stops′ ≡ length es + length (drop (length es) stops) = ap length ends-are ∙ length-append es (drop (length es) stops) in
+      let l : length stops′ ≡ length es + length (drop (length es) stops) = ap length ends-are ∙ length-append es (drop (length es) stops)
+      in
       omega (arith, cell .faces, length-ends 0 (cell .polygons))
 
   pub ready : {points space segments : List Float} → Scratch t stops coords points space segments → length coords′ ≡ length coords
@@ -95,7 +96,8 @@ module _ (t : ℕ) (c : List ℕ) (xs : List Float) {r : Reading} {coords coords
   ready {points} {space} h l =
       let ps = cell .polygons in
       let n : length (flatten ps) ≤ spaceMost t = corners-most t c xs ps (cell .is) in
-      let e : take f stops′ ≡ take (length ps) (over (endsFrom 0 ps) stops) = ap (λ k. take k stops′) (cell .faces) ∙ ap (take (length ps)) ends-are in
+      let e : take f stops′ ≡ take (length ps) (over (endsFrom 0 ps) stops) = ap (λ k. take k stops′) (cell .faces) ∙ ap (take (length ps))
+      ends-are in
       let k = cell .corners in
       let b = most-256 t in
       let x = h .for-corners in
@@ -105,7 +107,8 @@ module _ (t : ℕ) (c : List ℕ) (xs : List Float) {r : Reading} {coords coords
         fit =
             subst (λ i. Fit 0 (take f stops′) i (length points) (length space)) (sym k)
             (subst (λ l. Fit 0 l (length (flatten ps)) (length points) (length space)) (sym e)
-            (seam-fit (faceMost t) (length points) (length space) ps stops (face-most t c xs ps (cell .is)) (h .for-points) (h .for-space)));
+            (seam-fit (faceMost t) (length points) (length space) ps stops (face-most t c xs ps (cell .is)) (h .for-points) (h
+            .for-space)));
         for-corners = omega arith;
         for-segments = omega arith;
       }

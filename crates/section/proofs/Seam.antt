@@ -271,6 +271,7 @@ plane-seam t c xs ps r out = by-type (planeType t) refl
     by-type p.Unknown e = absurd (unread e)
     by-type (p.Known k) e =
         let n = planeCorners k (length c) in
-        let a = accepted 2 (planeKind (planeType t)) (planeNodes k) (λ c. polygonOf (planeCorners k (length c))) c xs ps (ap planeKind e) r in
+        let a = accepted 2 (planeKind (planeType t)) (planeNodes k) (λ c. polygonOf (planeCorners k (length c))) c xs ps (ap planeKind e) r
+        in
         let l : length (map (corner 2 c xs) (from 0 n)) ≡ n = length-map (from 0 n) (corner 2 c xs) ∙ length-from 0 n in
         alone (map (corner 2 c xs) (from 0 n)) (a .1) (omega (arith, plane-room t k (length c) e (a .0)))

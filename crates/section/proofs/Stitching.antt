@@ -1,12 +1,12 @@
 -- The segments of a cell's faces fit stitching. Assumes nothing.
 use mathlib.Core.Path.{_≡_, sym, ap, _∙_}
 use mathlib.Core.List.{List, [], _∷_}
-use Prim.Native.Nat.{ℕ, _+_, _-_, _*_, _/_, _≤_}
+use Prim.Native.Nat.{ℕ, _+_, _-_, _*_, _≤_}
 use native.Mathlib.Omega.{arith}
 use lib.Ieee.{Float}
 use lib.ListN.{length, drop}
 use Rattle.vector.specs.Vector.{Frame}
-use Rattle.vector.specs.Rows.{Seg, rows}
+use Rattle.vector.specs.Rows.{Seg}
 use Rattle.vector.proofs.Rows.{rows-length, segs-length}
 use Rattle.clip.specs.Clip.{Cut}
 use Rattle.clip.specs.Cell.{atMost, cellSegments, corners, facesFrom, facesOf}

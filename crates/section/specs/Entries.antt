@@ -3,11 +3,11 @@ use mathlib.Core.List.{List, [], _∷_, _++_, map, flatten}
 use mathlib.Core.Bool.{_&&_}
 use Prim.Native.Nat.{ℕ, _*_, _/_, _%_}
 use lib.Dec.{eqb, leb}
-use lib.ListN.{length, getD}
-use lib.Ieee.{Float, binary64, mul}
+use lib.ListN.{length}
+use lib.Ieee.{Float}
 use Rattle.vector.specs.Number.{f0, f1}
 use Rattle.vector.specs.Vector.{Vector, Direction, along, nowhere, Frame, Framed, framed, unframed, unit, planeOf, lineOf, normalAlong}
-use Rattle.vector.specs.Vector.{at, dotFrom, plus, scale}
+use Rattle.vector.specs.Vector.{at, plus, scale}
 use Rattle.vector.specs.Rows.{Seg, seg, segs}
 use Rattle.vector.specs.Tolerance.{tolerance}
 use Rattle.cell.specs.Read as R

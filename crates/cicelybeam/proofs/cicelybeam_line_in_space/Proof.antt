@@ -6,10 +6,6 @@ use Rattle.cicelybeam.proofs.Exports.{line-small, line-retold}
 use borrow.Author.Needs.{needs}
 use Rattle.cicelybeam.proofs.cicelybeam_line_in_space.Statement.{statement}
 use Rattle.cicelybeam.proofs.cicelybeam_line_in_space.Tie as tie
-use Rattle.cicelybeam.proofs.cicelybeam_line_in_space.Reads as reads
-use Rattle.cicelybeam.proofs.cicelybeam_line_in_space.Lts as lts
-use Rattle.cicelybeam.proofs.told_line.Reads as told-line-reads
-use Rattle.line.proofs.slice_line_3d.Reads as slice-line-3d-reads
 
 slice-line-3d-requires : tie.Need-slice-line-3d-requires
 slice-line-3d-requires c κs = search needs
@@ -18,7 +14,8 @@ told-line-requires : tie.Need-told-line-requires
 told-line-requires c κs =
     let g = c .before .before .before .before .before .before .before .before .before .args in
     line-small (c .before .before .slice-line-3d .ensures) 576
-    (line-sound (g .kind) (g .conn .now) (g .coords .now) (g .origin .now) (g .direction .now) (g .tol) (length (g .numbers .now))) (omega arith)
+    (line-sound (g .kind) (g .conn .now) (g .coords .now) (g .origin .now) (g .direction .now) (g .tol) (length (g .numbers .now))) (omega
+    arith)
 
 same-length : tie.Need-same-length
 same-length c = search needs

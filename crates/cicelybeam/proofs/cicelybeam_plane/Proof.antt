@@ -5,17 +5,14 @@ use Rattle.cicelybeam.proofs.Exports.{retold, told-small}
 use borrow.Author.Needs.{needs}
 use Rattle.cicelybeam.proofs.cicelybeam_plane.Statement.{statement}
 use Rattle.cicelybeam.proofs.cicelybeam_plane.Tie as tie
-use Rattle.cicelybeam.proofs.cicelybeam_plane.Reads as reads
-use Rattle.cicelybeam.proofs.cicelybeam_plane.Lts as lts
-use Rattle.cicelybeam.proofs.told_section.Reads as told-section-reads
-use Rattle.section.proofs.section_cell_by_plane.Reads as section-cell-by-plane-reads
 
 section-cell-by-plane-requires : tie.Need-section-cell-by-plane-requires
 section-cell-by-plane-requires c κs = search needs
 
 told-section-requires : tie.Need-told-section-requires
 told-section-requires c κs =
-    let g = c .before .before .before .before .before .before .before .before .before .before .before .before .before .before .before .before .before .args in
+    let g = c .before .before .before .before .before .before .before .before .before .before .before .before .before .before .before
+    .before .before .args in
     told-small (c .before .before .before .before .before .before .section-cell-by-plane .ensures)
     (sections-small .0 (g .kind) (g .conn .now) (g .coords .now) (g .origin .now) (g .normal .now) (g .tol) (length (g .numbers .now))
     (length (g .nodes .now)) (length (g .ends .now)))

@@ -7,10 +7,6 @@ use Rattle.cicelybeam.proofs.Exports.{line-small, line-retold}
 use borrow.Author.Needs.{needs}
 use Rattle.cicelybeam.proofs.cicelybeam_plane_cell_by_normal.Statement.{statement}
 use Rattle.cicelybeam.proofs.cicelybeam_plane_cell_by_normal.Tie as tie
-use Rattle.cicelybeam.proofs.cicelybeam_plane_cell_by_normal.Reads as reads
-use Rattle.cicelybeam.proofs.cicelybeam_plane_cell_by_normal.Lts as lts
-use Rattle.cicelybeam.proofs.told_line.Reads as told-line-reads
-use Rattle.line.proofs.slice_2d.Reads as slice-2d-reads
 
 slice-2d-requires : tie.Need-slice-2d-requires
 slice-2d-requires c κs = search needs
@@ -19,7 +15,8 @@ told-line-requires : tie.Need-told-line-requires
 told-line-requires c κs =
     let g = c .before .before .before .before .before .before .before .before .before .args in
     line-small (c .before .before .slice-2d .ensures) 384
-    (plane-cell-sound unit (g .kind) (g .conn .now) (g .coords .now) (g .origin .now) (g .normal .now) (g .tol) (length (g .numbers .now))) (omega arith)
+    (plane-cell-sound unit (g .kind) (g .conn .now) (g .coords .now) (g .origin .now) (g .normal .now) (g .tol) (length (g .numbers .now)))
+    (omega arith)
 
 same-length : tie.Need-same-length
 same-length c = search needs

@@ -5,10 +5,6 @@ use Rattle.cicelybeam.proofs.Exports.{retold, told-small}
 use borrow.Author.Needs.{needs}
 use Rattle.cicelybeam.proofs.cicelybeam_stitch.Statement.{statement}
 use Rattle.cicelybeam.proofs.cicelybeam_stitch.Tie as tie
-use Rattle.cicelybeam.proofs.cicelybeam_stitch.Reads as reads
-use Rattle.cicelybeam.proofs.cicelybeam_stitch.Lts as lts
-use Rattle.cicelybeam.proofs.told_section.Reads as told-section-reads
-use Rattle.section.proofs.stitch_alone.Reads as stitch-alone-reads
 
 stitch-alone-requires : tie.Need-stitch-alone-requires
 stitch-alone-requires c κs = search needs

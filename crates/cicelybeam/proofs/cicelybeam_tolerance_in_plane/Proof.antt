@@ -3,10 +3,6 @@ use mathlib.Core.Path.{_∙_}
 use borrow.Author.Needs.{needs}
 use Rattle.cicelybeam.proofs.cicelybeam_tolerance_in_plane.Statement.{statement}
 use Rattle.cicelybeam.proofs.cicelybeam_tolerance_in_plane.Tie as tie
-use Rattle.cicelybeam.proofs.cicelybeam_tolerance_in_plane.Reads as reads
-use Rattle.cicelybeam.proofs.cicelybeam_tolerance_in_plane.Lts as lts
-use Rattle.cicelybeam.proofs.told_tolerance.Reads as told-tolerance-reads
-use Rattle.section.proofs.tolerance_in_plane.Reads as tolerance-in-plane-reads
 
 tolerance-in-plane-requires : tie.Need-tolerance-in-plane-requires
 tolerance-in-plane-requires c κs = search needs

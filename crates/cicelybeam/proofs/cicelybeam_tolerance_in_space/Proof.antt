@@ -3,10 +3,6 @@ use mathlib.Core.Path.{_∙_}
 use borrow.Author.Needs.{needs}
 use Rattle.cicelybeam.proofs.cicelybeam_tolerance_in_space.Statement.{statement}
 use Rattle.cicelybeam.proofs.cicelybeam_tolerance_in_space.Tie as tie
-use Rattle.cicelybeam.proofs.cicelybeam_tolerance_in_space.Reads as reads
-use Rattle.cicelybeam.proofs.cicelybeam_tolerance_in_space.Lts as lts
-use Rattle.cicelybeam.proofs.told_tolerance.Reads as told-tolerance-reads
-use Rattle.section.proofs.tolerance_in_space.Reads as tolerance-in-space-reads
 
 tolerance-in-space-requires : tie.Need-tolerance-in-space-requires
 tolerance-in-space-requires c κs = search needs

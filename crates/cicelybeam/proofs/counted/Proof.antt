@@ -2,9 +2,6 @@
 use borrow.Author.Needs.{needs}
 use Rattle.cicelybeam.proofs.counted.Statement.{statement}
 use Rattle.cicelybeam.proofs.counted.Tie as tie
-use Rattle.cicelybeam.proofs.counted.Reads as reads
-use Rattle.cicelybeam.proofs.counted.Lts as lts
-use Rattle.cicelybeam.proofs.narrow.Reads as narrow-reads
 
 narrow-requires : tie.Need-narrow-requires
 narrow-requires c κs = search needs
@@ -29,7 +26,17 @@ narrow-requires-7 c κs = search needs
 
 returns : tie.Need-returns
 returns c =
-    simp (c .before .before .before .before .before .before .narrow .ensures, c .before .before .before .before .before .narrow2 .ensures, c .before .before .before .before .narrow3 .ensures, c .before .before .before .narrow4 .ensures, c .before .before .narrow5 .ensures, c .before .narrow6 .ensures, c .narrow7 .ensures)
+    simp (
+      c .before .before .before .before .before .before .narrow .ensures,
+      c .before .before .before .before .before .narrow2 .ensures,
+      c
+          .before .before .before .before .narrow3 .ensures,
+      c .before .before .before .narrow4 .ensures,
+      c .before .before .narrow5 .ensures,
+      c
+          .before .narrow6 .ensures,
+      c .narrow7 .ensures,
+    )
 
 pub counted-spec : {M : Type 1} → statement M
 counted-spec =

@@ -5,9 +5,6 @@ use Rattle.line.specs.Code.{meaning}
 use borrow.Author.Needs.{needs}
 use Rattle.cicelybeam.proofs.told_line.Statement.{statement}
 use Rattle.cicelybeam.proofs.told_line.Tie as tie
-use Rattle.cicelybeam.proofs.told_line.Reads as reads
-use Rattle.cicelybeam.proofs.told_line.Lts as lts
-use Rattle.cicelybeam.proofs.narrow.Reads as narrow-reads
 
 enum-known-answer : tie.Need-enum-known-answer
 enum-known-answer c = search needs

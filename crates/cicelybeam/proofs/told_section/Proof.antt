@@ -5,9 +5,6 @@ use Rattle.section.specs.Code.{meaning}
 use borrow.Author.Needs.{needs}
 use Rattle.cicelybeam.proofs.told_section.Statement.{statement}
 use Rattle.cicelybeam.proofs.told_section.Tie as tie
-use Rattle.cicelybeam.proofs.told_section.Reads as reads
-use Rattle.cicelybeam.proofs.told_section.Lts as lts
-use Rattle.cicelybeam.proofs.counted.Reads as counted-reads
 
 enum-known-answer : tie.Need-enum-known-answer
 enum-known-answer c = search needs

@@ -4,8 +4,6 @@ use Rattle.section.specs.Code.{toleranceMeaning}
 use borrow.Author.Needs.{needs}
 use Rattle.cicelybeam.proofs.told_tolerance.Statement.{statement}
 use Rattle.cicelybeam.proofs.told_tolerance.Tie as tie
-use Rattle.cicelybeam.proofs.told_tolerance.Reads as reads
-use Rattle.cicelybeam.proofs.told_tolerance.Lts as lts
 
 enum-known-answer : tie.Need-enum-known-answer
 enum-known-answer c = search needs

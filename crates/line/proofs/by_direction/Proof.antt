@@ -31,7 +31,9 @@ with-normal-requires c κs = search needs
 returns-3 : tie.Need-returns-3
 returns-3 c =
     let g = c .before .before .before .before .before .before .before .before .args in
-    c .with-normal .ensures ∙ line-made normalAlong (g .origin .now) (g .direction .now) (g .tol) _ _ _ (c .before .before .before .before .before .if1 .left) (c .before .before .before .before .if2 .left) (c .before .before .before .point2 .ensures) (c .before .before .point22 .ensures) (c .before .normal-along .ensures)
+    c .with-normal .ensures ∙ line-made normalAlong (g .origin .now) (g .direction .now) (g .tol) _ _ _ (c .before .before .before .before
+    .before .if1 .left) (c .before .before .before .before .if2 .left) (c .before .before .before .point2 .ensures) (c .before .before
+    .point22 .ensures) (c .before .normal-along .ensures)
 
 pub by-direction-spec : {M : Type 1} → statement M
 by-direction-spec =

@@ -29,7 +29,8 @@ returns-2 c =
     let g = c .before .before .before .before .before .before .before .before .before .before .before .args in
     let h = c .before .before .before .before .plane-section-segments .ensures in
     let few = section-count 2 (cut2 (g .cut)) (g .n) (g .coords .now) h in
-    gave-segments (test-passed 7 _ _ (le-leb _ _ (c .before .before .before .before .before .before .before .if1 .left))) h (search needs) (omega (arith, c .before .before .before .before .before .before .before .if1 .left))
+    gave-segments (test-passed 7 _ _ (le-leb _ _ (c .before .before .before .before .before .before .before .if1 .left))) h (search needs)
+    (omega (arith, c .before .before .before .before .before .before .before .if1 .left))
 
 pub cut-by-spec : {M : Type 1} → statement M
 cut-by-spec =

@@ -22,8 +22,13 @@ abbrev μ-loop : tie.MeasureT-loop
 loop-holds : tie.Need-loop-holds Inv-loop μ-loop
 loop-holds c =
     let s = c .before .before .before .before .before .before .before in
-    let g = s .args in
-    (loops-start (frameOf (g .plane)) (g .tol) (rows 2 (g .p) (g .points .now)) (g .nodes .now) (g .ends .now) (g .numbers .now) (s .pre .rising), refl, refl, refl)
+    let g = s .args in (
+      loops-start (frameOf (g .plane)) (g .tol) (rows 2 (g .p) (g .points .now)) (g .nodes .now) (g .ends .now) (g .numbers .now) (s .pre
+          .rising),
+      refl,
+      refl,
+      refl,
+    )
 
 mul-wide : tie.Need-mul-wide Inv-loop μ-loop
 mul-wide c = omega arith
@@ -35,26 +40,54 @@ wide-requires : tie.Need-wide-requires Inv-loop μ-loop
 wide-requires c κs = search needs
 
 mul-cut-loop : tie.Need-mul-cut-loop Inv-loop μ-loop
-mul-cut-loop c = omega (arith, loop-from (c .before .before .before .loop .inv .0) (c .before .before .loop-test .taken), loop-to (c .before .before .before .loop .inv .0) (c .before .before .loop-test .taken), c .wide .ensures)
+mul-cut-loop c = omega (
+  arith,
+  loop-from (c .before .before .before .loop .inv .0) (c .before .before .loop-test .taken),
+  loop-to (c .before
+      .before .before .loop .inv .0) (c .before .before .loop-test .taken),
+  c .wide .ensures,
+)
 
 sub-cut-loop : tie.Need-sub-cut-loop Inv-loop μ-loop
-sub-cut-loop c = omega (arith, loop-from (c .before .before .before .loop .inv .0) (c .before .before .loop-test .taken), loop-to (c .before .before .before .loop .inv .0) (c .before .before .loop-test .taken), c .wide .ensures)
+sub-cut-loop c = omega (
+  arith,
+  loop-from (c .before .before .before .loop .inv .0) (c .before .before .loop-test .taken),
+  loop-to (c .before
+      .before .before .loop .inv .0) (c .before .before .loop-test .taken),
+  c .wide .ensures,
+)
 
 part-cut-loop-start : tie.Need-part-cut-loop-start Inv-loop μ-loop
-part-cut-loop-start c = omega (arith, loop-from (c .before .before .before .loop .inv .0) (c .before .before .loop-test .taken), loop-to (c .before .before .before .loop .inv .0) (c .before .before .loop-test .taken), c .wide .ensures)
+part-cut-loop-start c = omega (
+  arith,
+  loop-from (c .before .before .before .loop .inv .0) (c .before .before .loop-test .taken),
+  loop-to (c
+      .before .before .before .loop .inv .0) (c .before .before .loop-test .taken),
+  c .wide .ensures,
+)
 
 part-cut-loop-end : tie.Need-part-cut-loop-end Inv-loop μ-loop
-part-cut-loop-end c = omega (arith, loop-from (c .before .before .before .loop .inv .0) (c .before .before .loop-test .taken), loop-to (c .before .before .before .loop .inv .0) (c .before .before .loop-test .taken), c .wide .ensures)
+part-cut-loop-end c = omega (
+  arith,
+  loop-from (c .before .before .before .loop .inv .0) (c .before .before .loop-test .taken),
+  loop-to (c
+      .before .before .before .loop .inv .0) (c .before .before .loop-test .taken),
+  c .wide .ensures,
+)
 
 cut-loop-requires : tie.Need-cut-loop-requires Inv-loop μ-loop
 cut-loop-requires c κs =
     let v = c .before .before .before .before .before .before .before .before .loop .inv in
-    loop-ready (v .0) (c .before .before .before .before .before .before .before .loop-test .taken) (c .before .before .before .before .before .before .before .before .before .before .before .before .before .before .before .before .pre) _ (c .before .before .before .before .before .wide .ensures) (v .1) (v .2) (v .3)
+    loop-ready (v .0) (c .before .before .before .before .before .before .before .loop-test .taken) (c .before .before .before .before
+    .before .before .before .before .before .before .before .before .before .before .before .before .pre) _ (c .before .before .before
+    .before .before .wide .ensures) (v .1) (v .2) (v .3)
 
 add-i : tie.Need-add-i Inv-loop μ-loop
 add-i c =
-    let known = c .before .before .before .before .before .before .before .before .before .before .before .before .before .before .before .before .before .before .before .before .before .before .before .before .before .good in
-    let here = c .before .before .before .before .before .before .before .before .before .before .before .before .before .before .before .before .loop-test .taken in
+    let known = c .before .before .before .before .before .before .before .before .before .before .before .before .before .before .before
+    .before .before .before .before .before .before .before .before .before .before .good in
+    let here = c .before .before .before .before .before .before .before .before .before .before .before .before .before .before .before
+    .before .loop-test .taken in
     omega arith
 
 loop-less : tie.Need-loop-less Inv-loop μ-loop
@@ -62,9 +95,12 @@ loop-less c = omega arith
 
 loop-again : tie.Need-loop-again Inv-loop μ-loop
 loop-again c =
-    let v = c .before .before .before .before .before .before .before .before .before .before .before .before .before .before .before .before .before .loop .inv in
+    let v = c .before .before .before .before .before .before .before .before .before .before .before .before .before .before .before
+    .before .before .loop .inv in
     let one = c .before .before .before .before .before .before .before .before .cut-loop in (
-      loops-step (v .0) (c .before .before .before .before .before .before .before .before .before .before .before .before .before .before .before .before .loop-test .taken) (c .before .before .before .before .before .before .before .before .before .before .before .before .before .before .wide .ensures) (one .ensures) (one .kept .1 .1 .1 .1 .1 .1 .1 .1 .0),
+      loops-step (v .0) (c .before .before .before .before .before .before .before .before .before .before .before .before .before .before
+          .before .before .loop-test .taken) (c .before .before .before .before .before .before .before .before .before .before .before .before
+          .before .before .wide .ensures) (one .ensures) (one .kept .1 .1 .1 .1 .1 .1 .1 .1 .0),
       one .kept .1 .1 .1 .1 .1 .0 ∙ v .1,
       one .kept .1 .1 .1 .1 .1 .1 .0 ∙ v .2,
       one .kept .1 .1 .1 .1 .1 .1 .1 .0 ∙ v .3,

@@ -24,7 +24,8 @@ same-length-2 : tie.Need-same-length-2
 same-length-2 c = search needs
 
 returns-2 : tie.Need-returns-2
-returns-2 c = gave-same (line-placed _ _ (c .before .before .before .before .before .before .before .before .by2 .given .1)) (c .before .before .before .before .cut-by .ensures)
+returns-2 c = gave-same (line-placed _ _ (c .before .before .before .before .before .before .before .before .by2 .given .1)) (c .before
+    .before .before .before .cut-by .ensures)
 
 pub cut-polygon-spec : {M : Type 1} → statement M
 cut-polygon-spec =

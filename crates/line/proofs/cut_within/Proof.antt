@@ -19,11 +19,17 @@ enum-known-corners c = search needs
 
 cut-polygon-requires : tie.Need-cut-polygon-requires
 cut-polygon-requires c κs =
-    let g = c .before .before .before .before .before .before .before .before .before .before .before .before .before .before .before .args in
-    let pre = c .before .before .before .before .before .before .before .before .before .before .before .before .before .before .before .pre in
-    let p = polygon-in (g .t) (g .conn .now) (g .xs .now) (c .before .before .before .before .before .before .before .before .read-plane-cell .ensures) (c .before .before .before .before .corners .given .1) in
-    let most = p .most in
-    (p .few, omega (arith, pre .0, c .before .before .before .before .before .before .before .before .read-plane-cell .kept .1 .1 .1 .0), omega (arith, pre .1))
+    let g = c .before .before .before .before .before .before .before .before .before .before .before .before .before .before .before .args
+    in
+    let pre = c .before .before .before .before .before .before .before .before .before .before .before .before .before .before .before .pre
+    in
+    let p = polygon-in (g .t) (g .conn .now) (g .xs .now) (c .before .before .before .before .before .before .before .before
+    .read-plane-cell .ensures) (c .before .before .before .before .corners .given .1) in
+    let most = p .most in (
+      p .few,
+      omega (arith, pre .0, c .before .before .before .before .before .before .before .before .read-plane-cell .kept .1 .1 .1 .0),
+      omega (arith, pre .1),
+    )
 
 same-length : tie.Need-same-length
 same-length c = search needs
@@ -46,10 +52,13 @@ same-length-4 c = search needs
 
 returns-2 : tie.Need-returns-2
 returns-2 c =
-    let g = c .before .before .before .before .before .before .before .before .before .before .before .before .before .before .before .before .before .before .before .before .args in
+    let g = c .before .before .before .before .before .before .before .before .before .before .before .before .before .before .before
+    .before .before .before .before .before .args in
     gave-same
     (cell-cut (cutting (g .by)) (g .t) (g .conn .now) (g .xs .now) (length (g .numbers .now)) _ _
-    (polygon-in (g .t) (g .conn .now) (g .xs .now) (c .before .before .before .before .before .before .before .before .before .before .before .before .before .read-plane-cell .ensures) (c .before .before .before .before .before .before .before .before .before .corners .given .1)))
+    (polygon-in (g .t) (g .conn .now) (g .xs .now) (c .before .before .before .before .before .before .before .before .before .before
+    .before .before .before .read-plane-cell .ensures) (c .before .before .before .before .before .before .before .before .before .corners
+    .given .1)))
     (c .before .before .before .before .cut-polygon .ensures)
 
 pub cut-within-spec : {M : Type 1} → statement M

@@ -24,7 +24,8 @@ line-on-requires c κs = search needs
 
 returns : tie.Need-returns
 returns c =
-    let g = c .before .before .before .before .before .before .before .before .before .before .before .before .before .before .before .args in
+    let g = c .before .before .before .before .before .before .before .before .before .before .before .before .before .before .before .args
+    in
     let next = lineIn (g .tol) (g .m) (length (g .numbers .now)) (facesOf 3 (g .stops .now) (g .coords .now)) in
     gave-refusal _ (ap (λ o. andThen o next) (sym (c .before .before .before .place .ensures) ∙ ap placing (c .before .k .given .1)))
 
@@ -54,9 +55,16 @@ same-length-8 c = search needs
 
 returns-2 : tie.Need-returns-2
 returns-2 c =
-    let g = c .before .before .before .before .before .before .before .before .before .before .before .before .before .before .before .before .before .before .before .before .before .before .before .before .before .before .before .before .before .before .before .before .before .before .before .before .before .before .before .before .args in
+    let g = c .before .before .before .before .before .before .before .before .before .before .before .before .before .before .before
+    .before .before .before .before .before .before .before .before .before .before .before .before .before .before .before .before .before
+    .before .before .before .before .before .before .before .before .args in
     let next = lineIn (g .tol) (g .m) (length (g .numbers .now)) (facesOf 3 (g .stops .now) (g .coords .now)) in
-    gave-same (ap (λ o. andThen o next) (sym (c .before .before .before .before .before .before .before .before .before .before .before .before .before .before .before .before .before .before .before .before .before .before .before .before .before .before .before .before .place .ensures) ∙ ap placing (c .before .before .before .before .before .before .before .before .before .before .before .before .before .before .before .before .before .before .before .before .before .before .before .before .before .before .plane .given .1))) (c .before .before .before .before .before .before .before .before .before .before .before .before .before .before .before .before .line-on .ensures)
+    gave-same (ap (λ o. andThen o next) (sym (c .before .before .before .before .before .before .before .before .before .before .before
+    .before .before .before .before .before .before .before .before .before .before .before .before .before .before .before .before .before
+    .place .ensures) ∙ ap placing (c .before .before .before .before .before .before .before .before .before .before .before .before .before
+    .before .before .before .before .before .before .before .before .before .before .before .before .before .plane .given .1))) (c .before
+    .before .before .before .before .before .before .before .before .before .before .before .before .before .before .before .line-on
+    .ensures)
 
 pub line-faces-spec : {M : Type 1} → statement M
 line-faces-spec =

@@ -46,11 +46,19 @@ same-length-8 c = search needs
 
 returns-2 : tie.Need-returns-2
 returns-2 c =
-    let s = c .before .before .before .before .before .before .before .before .before .before .before .before .before .before .before .before .before .before .before .before .before .before .before .before .before .before .before .before .before .before .before .before .before .before .before in
+    let s = c .before .before .before .before .before .before .before .before .before .before .before .before .before .before .before
+    .before .before .before .before .before .before .before .before .before .before .before .before .before .before .before .before .before
+    .before .before .before in
     let g = s .args in
-    let h = c .before .before .before .before .before .before .before .before .before .before .before .before .before .before .before .before .line-section .ensures in
-    gave-segments (test-passed 7 _ _ (le-leb _ _ (c .before .before .before .before .before .before .before .before .before .before .before .before .before .before .before .before .before .before .before .before .before .before .before .before .before .if1 .left))) h (c .before .before .before .before .before .before .before .before .before .before .before .before .before .before .before .before .line-section .kept .1 .1 .1 .1 .0)
-    (line-fits (frameOf (g .plane)) (g .tol) (g .m) (g .stops .now) (g .coords .now) (length (g .numbers .now)) _ (length (g .points .now)) (length (g .space .now)) (s .pre .0 .faces .fit) (c .before .before .before .before .before .before .before .before .before .before .before .before .before .before .before .before .before .before .before .before .before .before .before .before .before .if1 .left)
+    let h = c .before .before .before .before .before .before .before .before .before .before .before .before .before .before .before
+    .before .line-section .ensures in
+    gave-segments (test-passed 7 _ _ (le-leb _ _ (c .before .before .before .before .before .before .before .before .before .before .before
+    .before .before .before .before .before .before .before .before .before .before .before .before .before .before .if1 .left))) h (c
+    .before .before .before .before .before .before .before .before .before .before .before .before .before .before .before .before
+    .line-section .kept .1 .1 .1 .1 .0)
+    (line-fits (frameOf (g .plane)) (g .tol) (g .m) (g .stops .now) (g .coords .now) (length (g .numbers .now)) _ (length (g .points .now))
+    (length (g .space .now)) (s .pre .0 .faces .fit) (c .before .before .before .before .before .before .before .before .before .before
+    .before .before .before .before .before .before .before .before .before .before .before .before .before .before .before .if1 .left)
     (sym (segs-length 3 _ _) ∙ ap length (h .are)))
 
 pub line-on-spec : {M : Type 1} → statement M

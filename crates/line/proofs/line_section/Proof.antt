@@ -12,21 +12,28 @@ stitch-faces-requires : tie.Need-stitch-faces-requires
 stitch-faces-requires c κs = search needs
 
 slice-reshare-prefix-cut-loops : tie.Need-slice-reshare-prefix-cut-loops
-slice-reshare-prefix-cut-loops c = nodes-there (c .before .before .before .before .before .before .before .before .before .before .before .before .before .stitch-faces .ensures)
+slice-reshare-prefix-cut-loops c = nodes-there (c .before .before .before .before .before .before .before .before .before .before .before
+    .before .before .stitch-faces .ensures)
 
 slice-aggregate-cut-loops : tie.Need-slice-aggregate-cut-loops
-slice-aggregate-cut-loops c = sym (length-take-le _ _ (nodes-there (c .before .before .before .before .before .before .before .before .before .before .before .before .before .before .stitch-faces .ensures)))
+slice-aggregate-cut-loops c = sym (length-take-le _ _ (nodes-there (c .before .before .before .before .before .before .before .before
+    .before .before .before .before .before .before .stitch-faces .ensures)))
 
 slice-reshare-prefix-cut-loops-2 : tie.Need-slice-reshare-prefix-cut-loops-2
-slice-reshare-prefix-cut-loops-2 c = ends-there (c .before .before .before .before .before .before .before .before .before .before .before .before .before .before .stitch-faces .ensures)
+slice-reshare-prefix-cut-loops-2 c = ends-there (c .before .before .before .before .before .before .before .before .before .before .before
+    .before .before .before .stitch-faces .ensures)
 
 slice-aggregate-cut-loops-2 : tie.Need-slice-aggregate-cut-loops-2
-slice-aggregate-cut-loops-2 c = sym (length-take-le _ _ (ends-there (c .before .before .before .before .before .before .before .before .before .before .before .before .before .before .before .stitch-faces .ensures)))
+slice-aggregate-cut-loops-2 c = sym (length-take-le _ _ (ends-there (c .before .before .before .before .before .before .before .before
+    .before .before .before .before .before .before .before .stitch-faces .ensures)))
 
 cut-loops-requires : tie.Need-cut-loops-requires
 cut-loops-requires c κs =
-    let s = c .before .before .before .before .before .before .before .before .before .before .before .before .before .before .before .before .before .before .before .before .before .before .before .before .before .before .before .before .before .before .before .before .before .before .before .before in
-    let one = c .before .before .before .before .before .before .before .before .before .before .before .before .before .before .before .before .before .before .before .stitch-faces in
+    let s = c .before .before .before .before .before .before .before .before .before .before .before .before .before .before .before
+    .before .before .before .before .before .before .before .before .before .before .before .before .before .before .before .before .before
+    .before .before .before .before in
+    let one = c .before .before .before .before .before .before .before .before .before .before .before .before .before .before .before
+    .before .before .before .before .stitch-faces in
     loops-ready (frameOf (s .args .plane)) (s .args .tol) (s .pre .0) (s .pre .1) (s .pre .2) (one .ensures)
     (one .kept .1 .1 .1 .1 .1 .1 .1 .1 .0) (one .kept .1 .1 .1 .1 .1 .1 .1 .0) (one .kept .1 .1 .1 .1 .1 .1 .0)
 
@@ -56,8 +63,12 @@ same-length-8 c = search needs
 
 returns : tie.Need-returns
 returns c =
-    let g = c .before .before .before .before .before .before .before .before .before .before .before .before .before .before .before .before .before .before .before .before .before .before .before .before .before .before .before .before .before .before .before .before .before .before .before .before .before .before .before .before .before .before .before .before .before .args in
-    segments-same (line-of (c .before .before .before .before .before .before .before .before .before .before .before .before .before .before .before .before .before .before .before .before .before .before .before .before .before .before .before .before .stitch-faces .ensures) (frameOf (g .plane)) (g .tol)) (c .before .before .before .before .before .before .before .before .cut-loops .ensures)
+    let g = c .before .before .before .before .before .before .before .before .before .before .before .before .before .before .before
+    .before .before .before .before .before .before .before .before .before .before .before .before .before .before .before .before .before
+    .before .before .before .before .before .before .before .before .before .before .before .before .before .args in
+    segments-same (line-of (c .before .before .before .before .before .before .before .before .before .before .before .before .before
+    .before .before .before .before .before .before .before .before .before .before .before .before .before .before .before .stitch-faces
+    .ensures) (frameOf (g .plane)) (g .tol)) (c .before .before .before .before .before .before .before .before .cut-loops .ensures)
 
 pub line-section-spec : {M : Type 1} → statement M
 line-section-spec =

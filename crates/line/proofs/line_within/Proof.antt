@@ -21,20 +21,34 @@ enum-known-corners c = search needs
 
 slice-reshare-prefix-line-faces : tie.Need-slice-reshare-prefix-line-faces
 slice-reshare-prefix-line-faces c =
-    let g = c .before .before .before .before .before .before .before .before .before .before .before .before .before .before .before .before .before .before .before .before .before .before .before .args in
-    faces-few (g .t) (g .conn .now) (g .xs .now) (c .before .before .before .before .before .before .before .read-space-cell .ensures) (c .before .corners .given .1)
+    let g = c .before .before .before .before .before .before .before .before .before .before .before .before .before .before .before
+    .before .before .before .before .before .before .before .before .args in
+    faces-few (g .t) (g .conn .now) (g .xs .now) (c .before .before .before .before .before .before .before .read-space-cell .ensures) (c
+    .before .corners .given .1)
 
 slice-aggregate-line-faces : tie.Need-slice-aggregate-line-faces
 slice-aggregate-line-faces c =
-    let g = c .before .before .before .before .before .before .before .before .before .before .before .before .before .before .before .before .before .before .before .before .before .before .before .before .args in
-    sym (length-take-le _ _ (faces-few (g .t) (g .conn .now) (g .xs .now) (c .before .before .before .before .before .before .before .before .read-space-cell .ensures) (c .before .before .corners .given .1)))
+    let g = c .before .before .before .before .before .before .before .before .before .before .before .before .before .before .before
+    .before .before .before .before .before .before .before .before .before .args in
+    sym (length-take-le _ _ (faces-few (g .t) (g .conn .now) (g .xs .now) (c .before .before .before .before .before .before .before .before
+    .read-space-cell .ensures) (c .before .before .corners .given .1)))
 
 line-faces-requires : tie.Need-line-faces-requires
 line-faces-requires c κs =
-    let s = c .before .before .before .before .before .before .before .before .before .before .before .before .before .before .before .before .before .before .before .before .before .before .before .before .before .before .before .before .before .before .before .before in
+    let s = c .before .before .before .before .before .before .before .before .before .before .before .before .before .before .before
+    .before .before .before .before .before .before .before .before .before .before .before .before .before .before .before .before .before
+    in
     let g = s .args in (
-      line-ready (g .t) (g .conn .now) (g .xs .now) (c .before .before .before .before .before .before .before .before .before .before .before .before .before .before .before .before .read-space-cell .ensures) (c .before .before .before .before .before .before .before .before .before .before .corners .given .1) (s .pre .0) (omega (arith, c .before .before .before .before .before .before .before .before .before .before .before .before .before .before .before .before .read-space-cell .kept .1 .1 .1 .0)),
-      section-room (g .t) (g .conn .now) (g .xs .now) (c .before .before .before .before .before .before .before .before .before .before .before .before .before .before .before .before .read-space-cell .ensures) (c .before .before .before .before .before .before .before .before .before .before .corners .given .1) (s .pre .1),
+      line-ready (g .t) (g .conn .now) (g .xs .now) (c .before .before .before .before .before .before .before .before .before .before
+          .before .before .before .before .before .before .read-space-cell .ensures) (c .before .before .before .before .before .before .before
+          .before .before .before .corners .given .1) (s .pre .0) (omega (
+            arith,
+            c .before .before .before .before .before .before .before
+                .before .before .before .before .before .before .before .before .before .read-space-cell .kept .1 .1 .1 .0,
+          )),
+      section-room (g .t) (g .conn .now) (g .xs .now) (c .before .before .before .before .before .before .before .before .before .before
+          .before .before .before .before .before .before .read-space-cell .ensures) (c .before .before .before .before .before .before .before
+          .before .before .before .corners .given .1) (s .pre .1),
     )
 
 same-length : tie.Need-same-length
@@ -45,7 +59,8 @@ same-length-2 c = search needs
 
 returns : tie.Need-returns
 returns c =
-    let g = c .before .before .before .before .before .before .before .before .before .before .before .before .before .before .before .before .before .before .before .before .before .before .before .args in
+    let g = c .before .before .before .before .before .before .before .before .before .before .before .before .before .before .before
+    .before .before .before .before .before .before .before .before .args in
     gave-refusal _
     (line-refused (g .t) (g .conn .now) (g .xs .now) (g .origin .now) (g .direction .now) (g .tol) (length (g .numbers .now))
     (was-refused (c .before .before .before .before .before .before .before .read-space-cell .ensures) (c .before .k .given .1)))
@@ -79,10 +94,18 @@ same-length-11 c = search needs
 
 returns-2 : tie.Need-returns-2
 returns-2 c =
-    let g = c .before .before .before .before .before .before .before .before .before .before .before .before .before .before .before .before .before .before .before .before .before .before .before .before .before .before .before .before .before .before .before .before .before .before .before .before .before .before .before .before .before .before .before .before .before .before .before .before .before .args in
+    let g = c .before .before .before .before .before .before .before .before .before .before .before .before .before .before .before
+    .before .before .before .before .before .before .before .before .before .before .before .before .before .before .before .before .before
+    .before .before .before .before .before .before .before .before .before .before .before .before .before .before .before .before .before
+    .args in
     gave-same
-    (line-of-faces (g .t) (g .conn .now) (g .xs .now) (c .before .before .before .before .before .before .before .before .before .before .before .before .before .before .before .before .before .before .before .before .before .before .before .before .before .before .before .before .before .before .before .before .before .read-space-cell .ensures) (c .before .before .before .before .before .before .before .before .before .before .before .before .before .before .before .before .before .before .before .before .before .before .before .before .before .before .before .corners .given .1) (g .origin .now) (g .direction .now) (g .tol) (length (g .numbers .now)))
-    (c .before .before .before .before .before .before .before .before .before .before .before .before .before .before .before .before .line-faces .ensures)
+    (line-of-faces (g .t) (g .conn .now) (g .xs .now) (c .before .before .before .before .before .before .before .before .before .before
+    .before .before .before .before .before .before .before .before .before .before .before .before .before .before .before .before .before
+    .before .before .before .before .before .before .read-space-cell .ensures) (c .before .before .before .before .before .before .before
+    .before .before .before .before .before .before .before .before .before .before .before .before .before .before .before .before .before
+    .before .before .before .corners .given .1) (g .origin .now) (g .direction .now) (g .tol) (length (g .numbers .now)))
+    (c .before .before .before .before .before .before .before .before .before .before .before .before .before .before .before .before
+    .line-faces .ensures)
 
 pub line-within-spec : {M : Type 1} → statement M
 line-within-spec =

@@ -33,12 +33,24 @@ wide-requires c κs = search needs
 point2-requires : tie.Need-point2-requires Inv-loop μ-loop
 point2-requires c κs =
     let s = c .before .before .before .before .before .before .before .before in
-    omega (arith, s .pre .0, s .pre .1 (c .before .before .before .before .loop .i) (c .before .before .before .loop-test .taken), c .before .wide .ensures)
+    omega (
+      arith,
+      s .pre .0,
+      s .pre .1 (c .before .before .before .before .loop .i) (c .before .before .before .loop-test .taken),
+      c .before
+          .wide .ensures,
+    )
 
 put2-requires : tie.Need-put2-requires Inv-loop μ-loop
 put2-requires c κs =
     let s = c .before .before .before .before .before .before .before .before .before in
-    omega (arith, s .pre .2, c .before .before .before .before .before .loop .inv .same-length, c .before .before .before .before .loop-test .taken)
+    omega (
+      arith,
+      s .pre .2,
+      c .before .before .before .before .before .loop .inv .same-length,
+      c .before .before .before .before .loop-test
+          .taken,
+    )
 
 add-i : tie.Need-add-i Inv-loop μ-loop
 add-i c = omega arith
@@ -49,8 +61,11 @@ loop-less c = omega arith
 loop-again : tie.Need-loop-again Inv-loop μ-loop
 loop-again c =
     let s = c .before .before .before .before .before .before .before .before .before .before .before .before in
-    listing-step (c .before .before .before .before .before .before .before .before .loop .inv) (c .before .before .before .before .before .before .before .loop-test .taken) (s .pre .2)
-    (point-is (s .args .points .now) (s .args .p) _ _ _ (c .before .before .before .point2 .ensures) (c .before .before .before .before .before .wide .ensures) (s .pre .1 (c .before .before .before .before .before .before .before .before .loop .i) (c .before .before .before .before .before .before .before .loop-test .taken)))
+    listing-step (c .before .before .before .before .before .before .before .before .loop .inv) (c .before .before .before .before .before
+    .before .before .loop-test .taken) (s .pre .2)
+    (point-is (s .args .points .now) (s .args .p) _ _ _ (c .before .before .before .point2 .ensures) (c .before .before .before .before
+    .before .wide .ensures) (s .pre .1 (c .before .before .before .before .before .before .before .before .loop .i) (c .before .before
+    .before .before .before .before .before .loop-test .taken)))
     refl (c .before .before .put2 .ensures) (c .before .before .put2 .kept .0)
 
 same-length : tie.Need-same-length Inv-loop μ-loop

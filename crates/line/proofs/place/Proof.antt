@@ -16,7 +16,8 @@ returns c =
 returns-2 : tie.Need-returns-2
 returns-2 c =
     let g = c .before .before .before .before .args in
-    vector-long 3 (g .origin .now) (g .direction .now) (frameIn (lineOf (g .origin .now) (g .direction .now))) (c .before .if1 .left) (c .if2 .taken)
+    vector-long 3 (g .origin .now) (g .direction .now) (frameIn (lineOf (g .origin .now) (g .direction .now))) (c .before .if1 .left) (c
+    .if2 .taken)
 
 point3-requires : tie.Need-point3-requires
 point3-requires c κs = search needs
@@ -37,13 +38,17 @@ returns-3 : tie.Need-returns-3
 returns-3 c =
     let g = c .before .before .before .before .before .before .before .before .before .before .args in
     ap (λ r. frameIn (view.placed r)) (sym (c .before .p .given .1))
-    ∙ frame-made lineOf (g .origin .now) (g .direction .now) _ _ _ (c .before .before .before .before .before .before .before .if1 .left) (c .before .before .before .before .before .before .if2 .left) (c .before .before .before .before .before .point3 .ensures) (c .before .before .before .before .point32 .ensures) (c .before .before .before .of-line .ensures)
+    ∙ frame-made lineOf (g .origin .now) (g .direction .now) _ _ _ (c .before .before .before .before .before .before .before .if1 .left) (c
+    .before .before .before .before .before .before .if2 .left) (c .before .before .before .before .before .point3 .ensures) (c .before
+    .before .before .before .point32 .ensures) (c .before .before .before .of-line .ensures)
 
 returns-4 : tie.Need-returns-4
 returns-4 c =
     let g = c .before .before .before .before .before .before .before .before .before .args in
     ap (λ r. frameIn (view.placed r)) (sym (c .enum-told .given .1))
-    ∙ frame-made lineOf (g .origin .now) (g .direction .now) _ _ _ (c .before .before .before .before .before .before .if1 .left) (c .before .before .before .before .before .if2 .left) (c .before .before .before .before .point3 .ensures) (c .before .before .before .point32 .ensures) (c .before .before .of-line .ensures)
+    ∙ frame-made lineOf (g .origin .now) (g .direction .now) _ _ _ (c .before .before .before .before .before .before .if1 .left) (c .before
+    .before .before .before .before .if2 .left) (c .before .before .before .before .point3 .ensures) (c .before .before .before .point32
+    .ensures) (c .before .before .of-line .ensures)
 
 pub place-spec : {M : Type 1} → statement M
 place-spec =

@@ -64,12 +64,16 @@ loop-less c = omega arith
 
 loop-again : tie.Need-loop-again Inv-loop μ-loop
 loop-again c =
-    let s = c .before .before .before .before .before .before .before .before .before .before .before .before .before .before .before .before in
+    let s = c .before .before .before .before .before .before .before .before .before .before .before .before .before .before .before
+    .before in
     let v = c .before .before .before .before .before .before .before .before .before .before .before .before .before .loop .inv in
     let first = c .before .before .before .before .before .before .before .before .put3 in
     let second = c .before .before .put32 in
-    carrying-step v (c .before .before .before .before .before .before .before .before .before .before .before .before .loop-test .taken) (omega (arith, s .pre .1))
-    (on-line-ends (frameOf (s .args .plane)) (c .before .before .before .before .before .before .before .before .before .before .point2 .ensures) (c .before .before .before .before .before .before .before .before .before .on-line .ensures) (c .before .before .before .before .point22 .ensures) (c .before .before .before .on-line2 .ensures)) refl refl
+    carrying-step v (c .before .before .before .before .before .before .before .before .before .before .before .before .loop-test .taken)
+    (omega (arith, s .pre .1))
+    (on-line-ends (frameOf (s .args .plane)) (c .before .before .before .before .before .before .before .before .before .before .point2
+    .ensures) (c .before .before .before .before .before .before .before .before .before .on-line .ensures) (c .before .before .before
+    .before .point22 .ensures) (c .before .before .before .on-line2 .ensures)) refl refl
     (first .ensures) (second .ensures) (second .kept .0 ∙ first .kept .0 ∙ v .same-length)
 
 add-result : tie.Need-add-result Inv-loop μ-loop

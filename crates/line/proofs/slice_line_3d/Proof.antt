@@ -17,7 +17,8 @@ returns : tie.Need-returns
 returns c =
     let g = c .before .before .before .before .before .before .before .before .before .before .args in
     gave-same
-    (ap (λ t. lineCut t (g .conn .now) (g .xs .now) (g .origin .now) (g .direction .now) (g .tol) (length (g .numbers .now))) (c .before .before .before .before .if1 .taken))
+    (ap (λ t. lineCut t (g .conn .now) (g .xs .now) (g .origin .now) (g .direction .now) (g .tol) (length (g .numbers .now))) (c .before
+    .before .before .before .if1 .taken))
     (c .before .before .line-phed .ensures)
 
 line-fixed-requires : tie.Need-line-fixed-requires

@@ -7,10 +7,6 @@ use Rattle.section.proofs.Outcomes.{origin-long, vector-long, frame-mad
 use borrow.Author.Needs.{needs}
 use Rattle.section.proofs.place.Statement.{statement}
 use Rattle.section.proofs.place.Tie as tie
-use Rattle.section.proofs.place.Reads as reads
-use Rattle.section.proofs.place.Lts as lts
-use Rattle.vector.proofs.Plane.new.Reads as new-reads
-use Rattle.vector.proofs.point3.Reads as point3-reads
 
 returns : tie.Need-returns
 returns c =
@@ -20,7 +16,8 @@ returns c =
 returns-2 : tie.Need-returns-2
 returns-2 c =
     let g = c .before .before .before .before .args in
-    vector-long 3 (g .origin .now) (g .normal .now) (frameIn (planeOf (g .origin .now) (g .normal .now))) (c .before .if1 .left) (c .if2 .taken)
+    vector-long 3 (g .origin .now) (g .normal .now) (frameIn (planeOf (g .origin .now) (g .normal .now))) (c .before .if1 .left) (c .if2
+    .taken)
 
 point3-requires : tie.Need-point3-requires
 point3-requires c κs = search needs
@@ -41,13 +38,17 @@ returns-3 : tie.Need-returns-3
 returns-3 c =
     let g = c .before .before .before .before .before .before .before .before .before .before .args in
     ap (λ r. frameIn (view.placed r)) (sym (c .before .p .given .1))
-    ∙ frame-made planeOf (g .origin .now) (g .normal .now) _ _ _ (c .before .before .before .before .before .before .before .if1 .left) (c .before .before .before .before .before .before .if2 .left) (c .before .before .before .before .before .point3 .ensures) (c .before .before .before .before .point32 .ensures) (c .before .before .before .new .ensures)
+    ∙ frame-made planeOf (g .origin .now) (g .normal .now) _ _ _ (c .before .before .before .before .before .before .before .if1 .left) (c
+    .before .before .before .before .before .before .if2 .left) (c .before .before .before .before .before .point3 .ensures) (c .before
+    .before .before .before .point32 .ensures) (c .before .before .before .new .ensures)
 
 returns-4 : tie.Need-returns-4
 returns-4 c =
     let g = c .before .before .before .before .before .before .before .before .before .args in
     ap (λ r. frameIn (view.placed r)) (sym (c .enum-told .given .1))
-    ∙ frame-made planeOf (g .origin .now) (g .normal .now) _ _ _ (c .before .before .before .before .before .before .if1 .left) (c .before .before .before .before .before .if2 .left) (c .before .before .before .before .point3 .ensures) (c .before .before .before .point32 .ensures) (c .before .before .new .ensures)
+    ∙ frame-made planeOf (g .origin .now) (g .normal .now) _ _ _ (c .before .before .before .before .before .before .if1 .left) (c .before
+    .before .before .before .before .if2 .left) (c .before .before .before .before .point3 .ensures) (c .before .before .before .point32
+    .ensures) (c .before .before .new .ensures)
 
 pub place-spec : {M : Type 1} → statement M
 place-spec =

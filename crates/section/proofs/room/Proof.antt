@@ -2,8 +2,6 @@
 use borrow.Author.Tests.{le-leb, lt-leb}
 use Rattle.section.proofs.room.Statement.{statement}
 use Rattle.section.proofs.room.Tie as tie
-use Rattle.section.proofs.room.Reads as reads
-use Rattle.section.proofs.room.Lts as lts
 
 returns : tie.Need-returns
 returns c = simp (le-leb _ _ (c .before .if1 .taken), le-leb _ _ (c .if2 .taken))

@@ -6,10 +6,6 @@ use Rattle.section.proofs.Outcomes.{gave-same}
 use borrow.Author.Needs.{needs}
 use Rattle.section.proofs.section_cell_by_plane.Statement.{statement}
 use Rattle.section.proofs.section_cell_by_plane.Tie as tie
-use Rattle.section.proofs.section_cell_by_plane.Reads as reads
-use Rattle.section.proofs.section_cell_by_plane.Lts as lts
-use Rattle.section.proofs.section_fixed.Reads as section-fixed-reads
-use Rattle.section.proofs.section_phed.Reads as section-phed-reads
 
 section-phed-requires : tie.Need-section-phed-requires
 section-phed-requires c κs = search needs
@@ -25,8 +21,11 @@ same-length-3 c = search needs
 
 returns : tie.Need-returns
 returns c =
-    let g = c .before .before .before .before .before .before .before .before .before .before .before .before .before .before .before .before .before .before .args in
-    gave-same (ap (λ t. planeCut t (g .conn .now) (g .xs .now) (g .origin .now) (g .normal .now) (g .tol) (length (g .numbers .now)) (length (g .nodes .now)) (length (g .ends .now))) (c .before .before .before .before .before .before .before .before .before .before .if1 .taken)) (c .before .before .before .before .before .before .section-phed .ensures)
+    let g = c .before .before .before .before .before .before .before .before .before .before .before .before .before .before .before
+    .before .before .before .args in
+    gave-same (ap (λ t. planeCut t (g .conn .now) (g .xs .now) (g .origin .now) (g .normal .now) (g .tol) (length (g .numbers .now)) (length
+    (g .nodes .now)) (length (g .ends .now))) (c .before .before .before .before .before .before .before .before .before .before .if1
+    .taken)) (c .before .before .before .before .before .before .section-phed .ensures)
 
 section-fixed-requires : tie.Need-section-fixed-requires
 section-fixed-requires c κs = search needs

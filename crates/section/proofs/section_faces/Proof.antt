@@ -9,10 +9,6 @@ use Rattle.section.proofs.Outcomes.{gave-refusal, gave-same}
 use borrow.Author.Needs.{needs}
 use Rattle.section.proofs.section_faces.Statement.{statement}
 use Rattle.section.proofs.section_faces.Tie as tie
-use Rattle.section.proofs.section_faces.Reads as reads
-use Rattle.section.proofs.section_faces.Lts as lts
-use Rattle.section.proofs.place.Reads as place-reads
-use Rattle.section.proofs.section_on.Reads as section-on-reads
 
 place-requires : tie.Need-place-requires
 place-requires c κs = search needs
@@ -30,7 +26,8 @@ returns : tie.Need-returns
 returns c =
     let g = c .before .before .before .before .before .before .before .before .before .before .before .before .before .before .args in
     let next =
-    sectionIn (g .tol) (g .m) (length (g .numbers .now)) (length (g .nodes .now)) (length (g .ends .now)) (facesOf 3 (g .stops .now) (g .coords .now)) in
+    sectionIn (g .tol) (g .m) (length (g .numbers .now)) (length (g .nodes .now)) (length (g .ends .now)) (facesOf 3 (g .stops .now) (g
+    .coords .now)) in
     gave-refusal _ _ _ (ap (λ o. andThen o next) (sym (c .before .before .before .place .ensures) ∙ ap placing (c .before .k .given .1)))
 
 same-length : tie.Need-same-length
@@ -53,10 +50,17 @@ same-length-6 c = search needs
 
 returns-2 : tie.Need-returns-2
 returns-2 c =
-    let g = c .before .before .before .before .before .before .before .before .before .before .before .before .before .before .before .before .before .before .before .before .before .before .before .before .before .before .before .before .before .before .before .before .before .args in
+    let g = c .before .before .before .before .before .before .before .before .before .before .before .before .before .before .before
+    .before .before .before .before .before .before .before .before .before .before .before .before .before .before .before .before .before
+    .before .args in
     let next =
-    sectionIn (g .tol) (g .m) (length (g .numbers .now)) (length (g .nodes .now)) (length (g .ends .now)) (facesOf 3 (g .stops .now) (g .coords .now)) in
-    gave-same (ap (λ o. andThen o next) (sym (c .before .before .before .before .before .before .before .before .before .before .before .before .before .before .before .before .before .before .before .before .before .before .place .ensures) ∙ ap placing (c .before .before .before .before .before .before .before .before .before .before .before .before .before .before .before .before .before .before .before .before .plane .given .1))) (c .before .before .before .before .before .before .before .before .before .before .before .before .section-on .ensures)
+    sectionIn (g .tol) (g .m) (length (g .numbers .now)) (length (g .nodes .now)) (length (g .ends .now)) (facesOf 3 (g .stops .now) (g
+    .coords .now)) in
+    gave-same (ap (λ o. andThen o next) (sym (c .before .before .before .before .before .before .before .before .before .before .before
+    .before .before .before .before .before .before .before .before .before .before .before .place .ensures) ∙ ap placing (c .before .before
+    .before .before .before .before .before .before .before .before .before .before .before .before .before .before .before .before .before
+    .before .plane .given .1))) (c .before .before .before .before .before .before .before .before .before .before .before .before
+    .section-on .ensures)
 
 pub section-faces-spec : {M : Type 1} → statement M
 section-faces-spec =

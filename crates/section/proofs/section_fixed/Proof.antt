@@ -3,9 +3,6 @@ use Rattle.section.proofs.Reading.{fixed-scratch}
 use borrow.Author.Needs.{needs}
 use Rattle.section.proofs.section_fixed.Statement.{statement}
 use Rattle.section.proofs.section_fixed.Tie as tie
-use Rattle.section.proofs.section_fixed.Reads as reads
-use Rattle.section.proofs.section_fixed.Lts as lts
-use Rattle.section.proofs.section_within.Reads as section-within-reads
 
 slice-aggregate-section-within : tie.Need-slice-aggregate-section-within
 slice-aggregate-section-within c = search needs
@@ -24,7 +21,8 @@ slice-aggregate-section-within-5 c = search needs
 
 section-within-requires : tie.Need-section-within-requires
 section-within-requires c κs =
-    fixed-scratch (c .before .before .before .before .before .before .before .before .before .before .before .before .before .before .before .pre) (search needs)
+    fixed-scratch (c .before .before .before .before .before .before .before .before .before .before .before .before .before .before .before
+    .pre) (search needs)
 
 same-length : tie.Need-same-length
 same-length c = search needs

@@ -5,10 +5,6 @@ use Rattle.section.proofs.Outcomes.{gave-refusal, gave-section, roomy, 
 use borrow.Author.Needs.{needs}
 use Rattle.section.proofs.section_on.Statement.{statement}
 use Rattle.section.proofs.section_on.Tie as tie
-use Rattle.section.proofs.section_on.Reads as reads
-use Rattle.section.proofs.section_on.Lts as lts
-use Rattle.section.proofs.room.Reads as room-reads
-use Rattle.section.proofs.stitch_faces.Reads as stitch-faces-reads
 
 mul-room : tie.Need-mul-room
 mul-room c = search needs
@@ -23,7 +19,11 @@ returns : tie.Need-returns
 returns c = gave-refusal _ _ _ (test-failed 7 _ _ (sym (c .before .room .ensures) ∙ not-true _ (c .if1 .taken)))
 
 stitch-faces-requires : tie.Need-stitch-faces-requires
-stitch-faces-requires c κs = (search needs, roomy _ _ _ _ (sym (c .before .before .before .before .before .before .before .room .ensures) ∙ not-false _ (c .before .before .before .before .before .before .if1 .left)))
+stitch-faces-requires c κs = (
+  search needs,
+  roomy _ _ _ _ (sym (c .before .before .before .before .before .before .before .room .ensures) ∙
+      not-false _ (c .before .before .before .before .before .before .if1 .left)),
+)
 
 same-length : tie.Need-same-length
 same-length c = search needs
@@ -44,7 +44,10 @@ same-length-6 : tie.Need-same-length-6
 same-length-6 c = search needs
 
 returns-2 : tie.Need-returns-2
-returns-2 c = gave-section (test-passed 7 _ _ (sym (c .before .before .before .before .before .before .before .before .before .before .before .before .before .before .before .before .before .before .before .before .room .ensures) ∙ not-false _ (c .before .before .before .before .before .before .before .before .before .before .before .before .before .before .before .before .before .before .before .if1 .left))) (c .before .before .before .before .before .before .before .before .before .before .before .before .stitch-faces .ensures)
+returns-2 c = gave-section (test-passed 7 _ _ (sym (c .before .before .before .before .before .before .before .before .before .before
+    .before .before .before .before .before .before .before .before .before .before .room .ensures) ∙ not-false _ (c .before .before .before
+    .before .before .before .before .before .before .before .before .before .before .before .before .before .before .before .before .if1
+    .left))) (c .before .before .before .before .before .before .before .before .before .before .before .before .stitch-faces .ensures)
 
 pub section-on-spec : {M : Type 1} → statement M
 section-on-spec =

@@ -7,10 +7,6 @@ use Rattle.section.proofs.Reading.{cut-of-faces, cut-refused, faces-few
 use borrow.Author.Needs.{needs}
 use Rattle.section.proofs.section_within.Statement.{statement}
 use Rattle.section.proofs.section_within.Tie as tie
-use Rattle.section.proofs.section_within.Reads as reads
-use Rattle.section.proofs.section_within.Lts as lts
-use Rattle.cell.proofs.read_space_cell.Reads as read-space-cell-reads
-use Rattle.section.proofs.section_faces.Reads as section-faces-reads
 
 read-space-cell-requires : tie.Need-read-space-cell-requires
 read-space-cell-requires c κs = search needs
@@ -23,19 +19,30 @@ enum-known-corners c = search needs
 
 slice-reshare-prefix-section-faces : tie.Need-slice-reshare-prefix-section-faces
 slice-reshare-prefix-section-faces c =
-    let g = c .before .before .before .before .before .before .before .before .before .before .before .before .before .before .before .before .before .before .before .before .before .before .before .args in
-    faces-few (g .t) (g .conn .now) (g .xs .now) (c .before .before .before .before .before .before .before .before .read-space-cell .ensures) (c .before .before .corners .given .1)
+    let g = c .before .before .before .before .before .before .before .before .before .before .before .before .before .before .before
+    .before .before .before .before .before .before .before .before .args in
+    faces-few (g .t) (g .conn .now) (g .xs .now) (c .before .before .before .before .before .before .before .before .read-space-cell
+    .ensures) (c .before .before .corners .given .1)
 
 slice-aggregate-section-faces : tie.Need-slice-aggregate-section-faces
 slice-aggregate-section-faces c =
-    let g = c .before .before .before .before .before .before .before .before .before .before .before .before .before .before .before .before .before .before .before .before .before .before .before .before .args in
-    sym (length-take-le _ _ (faces-few (g .t) (g .conn .now) (g .xs .now) (c .before .before .before .before .before .before .before .before .before .read-space-cell .ensures) (c .before .before .before .corners .given .1)))
+    let g = c .before .before .before .before .before .before .before .before .before .before .before .before .before .before .before
+    .before .before .before .before .before .before .before .before .before .args in
+    sym (length-take-le _ _ (faces-few (g .t) (g .conn .now) (g .xs .now) (c .before .before .before .before .before .before .before .before
+    .before .read-space-cell .ensures) (c .before .before .before .corners .given .1)))
 
 section-faces-requires : tie.Need-section-faces-requires
 section-faces-requires c κs =
-    let s = c .before .before .before .before .before .before .before .before .before .before .before .before .before .before .before .before .before .before .before .before .before .before .before .before .before .before .before .before .before .before in
+    let s = c .before .before .before .before .before .before .before .before .before .before .before .before .before .before .before
+    .before .before .before .before .before .before .before .before .before .before .before .before .before .before .before in
     let g = s .args in
-    ready (g .t) (g .conn .now) (g .xs .now) (c .before .before .before .before .before .before .before .before .before .before .before .before .before .before .before .read-space-cell .ensures) (c .before .before .before .before .before .before .before .before .before .corners .given .1) (s .pre) (omega (arith, c .before .before .before .before .before .before .before .before .before .before .before .before .before .before .before .read-space-cell .kept .1 .1 .1 .0))
+    ready (g .t) (g .conn .now) (g .xs .now) (c .before .before .before .before .before .before .before .before .before .before .before
+    .before .before .before .before .read-space-cell .ensures) (c .before .before .before .before .before .before .before .before .before
+    .corners .given .1) (s .pre) (omega (
+      arith,
+      c .before .before .before .before .before .before .before .before .before .before .before
+          .before .before .before .before .read-space-cell .kept .1 .1 .1 .0,
+    ))
 
 same-length : tie.Need-same-length
 same-length c = search needs
@@ -45,7 +52,8 @@ same-length-2 c = search needs
 
 returns : tie.Need-returns
 returns c =
-    let g = c .before .before .before .before .before .before .before .before .before .before .before .before .before .before .before .before .before .before .before .before .before .before .args in
+    let g = c .before .before .before .before .before .before .before .before .before .before .before .before .before .before .before
+    .before .before .before .before .before .before .before .args in
     gave-refusal _ _ _
     (cut-refused (g .t) (g .conn .now) (g .xs .now) (g .origin .now) (g .normal .now) (g .tol) _ _ _
     (was-refused (c .before .before .before .before .before .before .before .read-space-cell .ensures) (c .before .k .given .1)))
@@ -76,9 +84,15 @@ same-length-10 c = search needs
 
 returns-2 : tie.Need-returns-2
 returns-2 c =
-    let g = c .before .before .before .before .before .before .before .before .before .before .before .before .before .before .before .before .before .before .before .before .before .before .before .before .before .before .before .before .before .before .before .before .before .before .before .before .before .before .before .before .before .before .before .args in
+    let g = c .before .before .before .before .before .before .before .before .before .before .before .before .before .before .before
+    .before .before .before .before .before .before .before .before .before .before .before .before .before .before .before .before .before
+    .before .before .before .before .before .before .before .before .before .before .before .args in
     gave-same
-    (cut-of-faces (g .t) (g .conn .now) (g .xs .now) (c .before .before .before .before .before .before .before .before .before .before .before .before .before .before .before .before .before .before .before .before .before .before .before .before .before .before .before .before .read-space-cell .ensures) (c .before .before .before .before .before .before .before .before .before .before .before .before .before .before .before .before .before .before .before .before .before .before .corners .given .1) (g .origin .now) (g .normal .now) (g .tol) _ _ _)
+    (cut-of-faces (g .t) (g .conn .now) (g .xs .now) (c .before .before .before .before .before .before .before .before .before .before
+    .before .before .before .before .before .before .before .before .before .before .before .before .before .before .before .before .before
+    .before .read-space-cell .ensures) (c .before .before .before .before .before .before .before .before .before .before .before .before
+    .before .before .before .before .before .before .before .before .before .before .corners .given .1) (g .origin .now) (g .normal .now) (g
+    .tol) _ _ _)
     (c .before .before .before .before .before .before .before .before .before .before .before .before .section-faces .ensures)
 
 pub section-within-spec : {M : Type 1} → statement M

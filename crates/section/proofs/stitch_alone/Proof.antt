@@ -8,10 +8,6 @@ use Rattle.section.proofs.Outcomes.{alone, crowded, fits, gave-refusal,
 use borrow.Author.Needs.{needs}
 use Rattle.section.proofs.stitch_alone.Statement.{statement}
 use Rattle.section.proofs.stitch_alone.Tie as tie
-use Rattle.section.proofs.stitch_alone.Reads as reads
-use Rattle.section.proofs.stitch_alone.Lts as lts
-use Rattle.section.proofs.room.Reads as room-reads
-use Rattle.stitch.proofs.stitch_segments.Reads as stitch-segments-reads
 
 returns : tie.Need-returns
 returns c =
@@ -23,7 +19,8 @@ returns-2 : tie.Need-returns-2
 returns-2 c =
     let g = c .before .before .before .before .before .before .args in
     let xs = g .segments .now in
-    gave-refusal _ _ _ (too-many xs (g .tol) (length (g .numbers .now)) (length (g .nodes .now)) (length (g .ends .now)) (c .before .if1 .left) (c .if2 .taken))
+    gave-refusal _ _ _ (too-many xs (g .tol) (length (g .numbers .now)) (length (g .nodes .now)) (length (g .ends .now)) (c .before .if1
+    .left) (c .if2 .taken))
 
 mul-room : tie.Need-mul-room
 mul-room c = search needs
@@ -35,15 +32,24 @@ returns-3 : tie.Need-returns-3
 returns-3 c =
     let g = c .before .before .before .before .before .before .before .before .args in
     let xs = g .segments .now in
-    gave-refusal _ _ _ (crowded xs (g .tol) (length (g .numbers .now)) (length (g .nodes .now)) (length (g .ends .now)) (c .before .before .before .if1 .left) (c .before .before .if2 .left) (sym (c .before .room .ensures) ∙ not-true _ (c .if3 .taken)))
+    gave-refusal _ _ _ (crowded xs (g .tol) (length (g .numbers .now)) (length (g .nodes .now)) (length (g .ends .now)) (c .before .before
+    .before .if1 .left) (c .before .before .if2 .left) (sym (c .before .room .ensures) ∙ not-true _ (c .if3 .taken)))
 
 stitch-segments-requires : tie.Need-stitch-segments-requires
 stitch-segments-requires c κs =
     let g = c .before .before .before .before .before .before .before .before .before .before .before .args in
     let xs = g .segments .now in
     let s = length xs / 4 in
-    let f = fits (4 * s) s (s / 3) (length (g .numbers .now)) (length (g .nodes .now)) (length (g .ends .now)) (sym (c .before .before .before .before .room .ensures) ∙ not-false _ (c .before .before .before .if3 .left)) in
-    record { given = omega arith; few = c .before .before .before .before .before .if2 .left; for-points = f .0; for-nodes = f .1; for-ends = f .2 }
+    let f = fits (4 * s) s (s / 3) (length (g .numbers .now)) (length (g .nodes .now)) (length (g .ends .now)) (sym (c .before .before
+    .before .before .room .ensures) ∙ not-false _ (c .before .before .before .if3 .left)) in
+    record {
+      given = omega arith;
+      few = c .before .before .before .before .before .if2 .left;
+      for-points = f .0;
+      for-nodes = f .1;
+      for-ends
+          = f .2;
+    }
 
 same-length : tie.Need-same-length
 same-length c = search needs
@@ -56,9 +62,14 @@ same-length-3 c = search needs
 
 returns-4 : tie.Need-returns-4
 returns-4 c =
-    let g = c .before .before .before .before .before .before .before .before .before .before .before .before .before .before .before .before .before .before .args in
+    let g = c .before .before .before .before .before .before .before .before .before .before .before .before .before .before .before
+    .before .before .before .args in
     let xs = g .segments .now in
-    gave-section (alone xs (g .tol) (length (g .numbers .now)) (length (g .nodes .now)) (length (g .ends .now)) (c .before .before .before .before .before .before .before .before .before .before .before .before .before .if1 .left) (c .before .before .before .before .before .before .before .before .before .before .before .before .if2 .left) (sym (c .before .before .before .before .before .before .before .before .before .before .before .room .ensures) ∙ not-false _ (c .before .before .before .before .before .before .before .before .before .before .if3 .left))) (c .before .before .before .before .before .before .stitch-segments .ensures .gave)
+    gave-section (alone xs (g .tol) (length (g .numbers .now)) (length (g .nodes .now)) (length (g .ends .now)) (c .before .before .before
+    .before .before .before .before .before .before .before .before .before .before .if1 .left) (c .before .before .before .before .before
+    .before .before .before .before .before .before .before .if2 .left) (sym (c .before .before .before .before .before .before .before
+    .before .before .before .before .room .ensures) ∙ not-false _ (c .before .before .before .before .before .before .before .before .before
+    .before .if3 .left))) (c .before .before .before .before .before .before .stitch-segments .ensures .gave)
 
 pub stitch-alone-spec : {M : Type 1} → statement M
 stitch-alone-spec =

@@ -6,21 +6,19 @@ use Rattle.section.proofs.Stitching.{few-segments, lent}
 use borrow.Author.Needs.{needs}
 use Rattle.section.proofs.stitch_faces.Statement.{statement}
 use Rattle.section.proofs.stitch_faces.Tie as tie
-use Rattle.section.proofs.stitch_faces.Reads as reads
-use Rattle.section.proofs.stitch_faces.Lts as lts
-use Rattle.clip.proofs.space.cell_segments.Reads as cell-segments-reads
-use Rattle.stitch.proofs.stitch_segments.Reads as stitch-segments-reads
 
 cell-segments-requires : tie.Need-cell-segments-requires
 cell-segments-requires c κs = search needs
 
 stitch-segments-requires : tie.Need-stitch-segments-requires
 stitch-segments-requires c κs =
-    let s = c .before .before .before .before .before .before .before .before .before .before .before .before .before .before .before .before .before .before .before .before .before .before in
+    let s = c .before .before .before .before .before .before .before .before .before .before .before .before .before .before .before
+    .before .before .before .before .before .before .before in
     let g = s .args in
     let f = frameOf (g .plane) in
     lent (s .pre .0) (s .pre .1) (c .before .before .before .before .before .before .before .before .before .before .cell-segments .ensures)
-    (few-segments (cutBy f (g .tol)) f (g .stops .now) (g .coords .now) (g .m) (length (g .points .now)) (length (g .space .now)) (s .pre .0 .fit)) (search needs)
+    (few-segments (cutBy f (g .tol)) f (g .stops .now) (g .coords .now) (g .m) (length (g .points .now)) (length (g .space .now)) (s .pre .0
+    .fit)) (search needs)
 
 same-length : tie.Need-same-length
 same-length c = search needs
@@ -41,7 +39,8 @@ same-length-6 : tie.Need-same-length-6
 same-length-6 c = search needs
 
 returns : tie.Need-returns
-returns c = rw (← c .before .before .before .before .before .before .before .before .before .before .before .before .before .before .before .before .before .cell-segments .ensures .are) (c .before .before .before .before .before .before .stitch-segments .ensures .gave)
+returns c = rw (← c .before .before .before .before .before .before .before .before .before .before .before .before .before .before .before
+    .before .before .cell-segments .ensures .are) (c .before .before .before .before .before .before .stitch-segments .ensures .gave)
 
 pub stitch-faces-spec : {M : Type 1} → statement M
 stitch-faces-spec =

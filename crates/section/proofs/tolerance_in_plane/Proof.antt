@@ -5,9 +5,6 @@ use Rattle.section.proofs.Outcomes.{not-rows, rows-fit}
 use borrow.Author.Needs.{needs}
 use Rattle.section.proofs.tolerance_in_plane.Statement.{statement}
 use Rattle.section.proofs.tolerance_in_plane.Tie as tie
-use Rattle.section.proofs.tolerance_in_plane.Reads as reads
-use Rattle.section.proofs.tolerance_in_plane.Lts as lts
-use Rattle.vector.proofs.slice_tolerance.Reads as slice-tolerance-reads
 
 returns : tie.Need-returns
 returns c =

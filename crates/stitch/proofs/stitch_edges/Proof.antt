@@ -36,7 +36,8 @@ loop-holds c =
 
 stitch-from-requires : tie.Need-stitch-from-requires Inv-loop μ-loop
 stitch-from-requires c κs =
-    let s = c .before .before .before .before .before .before .before .before .before .before .before .before .before .before .before .before .before .before .before in
+    let s = c .before .before .before .before .before .before .before .before .before .before .before .before .before .before .before
+    .before .before .before .before in
     let g = s .args in
     let l = c .before .before .before .before .before .before .loop in (
       looping-ready (g .n) (g .points .now) (g .smaller .now) (g .larger .now) (g .tol2) (g .used .now) (g .walked .now) (g .nodes .now)
@@ -53,7 +54,8 @@ stitch-from-requires c κs =
 
 add-k : tie.Need-add-k Inv-loop μ-loop
 add-k c =
-    let s = c .before .before .before .before .before .before .before .before .before .before .before .before .before .before .before .before .before .before .before .before .before .before .before .before .before .before .before .before in
+    let s = c .before .before .before .before .before .before .before .before .before .before .before .before .before .before .before
+    .before .before .before .before .before .before .before .before .before .before .before .before .before in
     omega (
       arith,
       c .before .before .before .before .before .before .before .before .before .before .before .before .before .before .loop-test .taken,
@@ -71,7 +73,8 @@ loop-less c =
 
 loop-again : tie.Need-loop-again Inv-loop μ-loop
 loop-again c =
-    let s = c .before .before .before .before .before .before .before .before .before .before .before .before .before .before .before .before .before .before .before .before .before .before .before .before .before .before .before .before in
+    let s = c .before .before .before .before .before .before .before .before .before .before .before .before .before .before .before
+    .before .before .before .before .before .before .before .before .before .before .before .before .before in
     let g = s .args in
     let l =
     c .before .before .before .before .before .before .before .before .before .before .before .before .before .before .before .loop in

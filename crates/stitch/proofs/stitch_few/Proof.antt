@@ -4,9 +4,6 @@ use native.Mathlib.Omega.{arith}
 use borrow.Author.Needs.{needs}
 use Rattle.stitch.proofs.stitch_few.Statement.{statement}
 use Rattle.stitch.proofs.stitch_few.Tie as tie
-use Rattle.stitch.proofs.stitch_few.Reads as reads
-use Rattle.stitch.proofs.stitch_few.Lts as lts
-use Rattle.stitch.proofs.stitch_within.Reads as stitch-within-reads
 
 slice-aggregate-stitch-within : tie.Need-slice-aggregate-stitch-within
 slice-aggregate-stitch-within c = search needs

@@ -47,7 +47,8 @@ walk-requires c κs = (
   walked-room
       (c .before .before .before .before .before .before .before .before .before .before .before .before),
   sym
-      (mark (c .before .before .before .before .before .before .before .before .before .before .before .before)) ∙ c .before .before .if1 .left,
+      (mark (c .before .before .before .before .before .before .before .before .before .before .before .before)) ∙ c .before .before .if1
+      .left,
   c .before .before .before .before .before .before .before .before .before .before .before .before .pre .4,
   c .before .before .before .before .before .before .before .before .before .before .before .before .pre .5,
 )

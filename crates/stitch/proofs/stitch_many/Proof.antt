@@ -4,9 +4,6 @@ use native.Mathlib.Omega.{arith}
 use borrow.Author.Needs.{needs}
 use Rattle.stitch.proofs.stitch_many.Statement.{statement}
 use Rattle.stitch.proofs.stitch_many.Tie as tie
-use Rattle.stitch.proofs.stitch_many.Reads as reads
-use Rattle.stitch.proofs.stitch_many.Lts as lts
-use Rattle.stitch.proofs.stitch_within.Reads as stitch-within-reads
 
 slice-aggregate-stitch-within : tie.Need-slice-aggregate-stitch-within
 slice-aggregate-stitch-within c = search needs

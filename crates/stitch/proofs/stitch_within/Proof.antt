@@ -16,28 +16,33 @@ slice-reshare-prefix-stitch-edges c = search needs
 
 slice-aggregate-stitch-edges : tie.Need-slice-aggregate-stitch-edges
 slice-aggregate-stitch-edges c =
-    let s = c .before .before .before .before .before .before .before .before .before .before .before .before .before .before .before .before .before .before .before .before .before in
+    let s = c .before .before .before .before .before .before .before .before .before .before .before .before .before .before .before
+    .before .before .before .before .before .before in
     let g = s .args in
     let f = c .before .before .before .before .before .before .before .before .weld in
     first-count (g .tol2) (g .segments .now) (g .s) (g .points .now) (f .result .points) (f .result .edges) (f .last .1 .1 .0)
     (f .last .1 .1 .1 .0) (f .last .1 .1 .1 .1 .0)
-    (g .nodes .now) (g .ends .now) (f .ensures) (s .pre .0) (f .kept .1 .1 .0) (f .kept .1 .1 .1 .0 ∙ s .pre .1 .same ∙ sym (f .kept .1 .1 .1 .1 .0)) (omega (arith, f .kept .1 .1 .1 .0, s .pre .1 .for-edges))
+    (g .nodes .now) (g .ends .now) (f .ensures) (s .pre .0) (f .kept .1 .1 .0) (f .kept .1 .1 .1 .0 ∙ s .pre .1 .same ∙ sym (f .kept .1 .1
+    .1 .1 .0)) (omega (arith, f .kept .1 .1 .1 .0, s .pre .1 .for-edges))
 
 slice-reshare-prefix-stitch-edges-2 : tie.Need-slice-reshare-prefix-stitch-edges-2
 slice-reshare-prefix-stitch-edges-2 c = search needs
 
 slice-aggregate-stitch-edges-2 : tie.Need-slice-aggregate-stitch-edges-2
 slice-aggregate-stitch-edges-2 c =
-    let s = c .before .before .before .before .before .before .before .before .before .before .before .before .before .before .before .before .before .before .before .before .before .before in
+    let s = c .before .before .before .before .before .before .before .before .before .before .before .before .before .before .before
+    .before .before .before .before .before .before .before in
     let g = s .args in
     let f = c .before .before .before .before .before .before .before .before .before .weld in
     second-count (g .tol2) (g .segments .now) (g .s) (g .points .now) (f .result .points) (f .result .edges) (f .last .1 .1 .0)
     (f .last .1 .1 .1 .0) (f .last .1 .1 .1 .1 .0)
-    (g .nodes .now) (g .ends .now) (f .ensures) (s .pre .0) (f .kept .1 .1 .0) (f .kept .1 .1 .1 .0 ∙ s .pre .1 .same ∙ sym (f .kept .1 .1 .1 .1 .0)) (omega (arith, f .kept .1 .1 .1 .0, s .pre .1 .for-edges))
+    (g .nodes .now) (g .ends .now) (f .ensures) (s .pre .0) (f .kept .1 .1 .0) (f .kept .1 .1 .1 .0 ∙ s .pre .1 .same ∙ sym (f .kept .1 .1
+    .1 .1 .0)) (omega (arith, f .kept .1 .1 .1 .0, s .pre .1 .for-edges))
 
 slice-relend-prefix-stitch-edges : tie.Need-slice-relend-prefix-stitch-edges
 slice-relend-prefix-stitch-edges c =
-    let s = c .before .before .before .before .before .before .before .before .before .before .before .before .before .before .before .before .before .before .before .before .before .before in
+    let s = c .before .before .before .before .before .before .before .before .before .before .before .before .before .before .before
+    .before .before .before .before .before .before .before in
     let g = s .args in
     let f = c .before .before .before .before .before .before .before .before .before .weld in
     let l = ap length (s .pre .1 .unmarked) ∙ length-replicate 384 false in
@@ -45,27 +50,33 @@ slice-relend-prefix-stitch-edges c =
 
 slice-aggregate-stitch-edges-3 : tie.Need-slice-aggregate-stitch-edges-3
 slice-aggregate-stitch-edges-3 c =
-    let s = c .before .before .before .before .before .before .before .before .before .before .before .before .before .before .before .before .before .before .before .before .before .before .before in
+    let s = c .before .before .before .before .before .before .before .before .before .before .before .before .before .before .before
+    .before .before .before .before .before .before .before .before in
     let g = s .args in
     let f = c .before .before .before .before .before .before .before .before .before .before .weld in
     mark-count (g .tol2) (g .segments .now) (g .s) (g .points .now) (f .result .points) (f .result .edges) (f .last .1 .1 .0)
     (f .last .1 .1 .1 .0) (f .last .1 .1 .1 .1 .0)
-    (g .nodes .now) (g .ends .now) (f .ensures) (s .pre .0) (f .kept .1 .1 .0) (f .kept .1 .1 .1 .0 ∙ s .pre .1 .same ∙ sym (f .kept .1 .1 .1 .1 .0)) (omega (arith, f .kept .1 .1 .1 .0, s .pre .1 .for-edges)) (g .used .now) (s .pre .1 .unmarked)
+    (g .nodes .now) (g .ends .now) (f .ensures) (s .pre .0) (f .kept .1 .1 .0) (f .kept .1 .1 .1 .0 ∙ s .pre .1 .same ∙ sym (f .kept .1 .1
+    .1 .1 .0)) (omega (arith, f .kept .1 .1 .1 .0, s .pre .1 .for-edges)) (g .used .now) (s .pre .1 .unmarked)
 
 stitch-edges-requires : tie.Need-stitch-edges-requires
 stitch-edges-requires c κs =
-    let s = c .before .before .before .before .before .before .before .before .before .before .before .before .before .before .before .before .before .before .before .before .before .before .before .before .before .before .before in
+    let s = c .before .before .before .before .before .before .before .before .before .before .before .before .before .before .before
+    .before .before .before .before .before .before .before .before .before .before .before .before in
     let g = s .args in
     let f = c .before .before .before .before .before .before .before .before .before .before .before .before .before .before .weld in (
       welded-ready (g .tol2) (g .segments .now) (g .s) (g .points .now) (f .result .points) (f .result .edges) (f .last .1 .1 .0)
           (f .last .1 .1 .1 .0) (f .last .1 .1 .1 .1 .0)
-          (g .nodes .now) (g .ends .now) (f .ensures) (s .pre .0) (f .kept .1 .1 .0) (f .kept .1 .1 .1 .0 ∙ s .pre .1 .same ∙ sym (f .kept .1 .1 .1 .1 .0)) (omega (arith, f .kept .1 .1 .1 .0, s .pre .1 .for-edges)) (g .used .now) (s .pre .1 .unmarked),
+          (g .nodes .now) (g .ends .now) (f .ensures) (s .pre .0) (f .kept .1 .1 .0) (f .kept .1 .1 .1 .0 ∙ s .pre .1 .same ∙ sym (f .kept
+          .1 .1 .1 .1 .0)) (omega (arith, f .kept .1 .1 .1 .0, s .pre .1 .for-edges)) (g .used .now) (s .pre .1 .unmarked),
       welded-spare (g .tol2) (g .segments .now) (g .s) (g .points .now) (f .result .points) (f .result .edges) (f .last .1 .1 .0)
           (f .last .1 .1 .1 .0) (f .last .1 .1 .1 .1 .0)
-          (g .nodes .now) (g .ends .now) (f .ensures) (s .pre .0) (f .kept .1 .1 .0) (f .kept .1 .1 .1 .0 ∙ s .pre .1 .same ∙ sym (f .kept .1 .1 .1 .1 .0)) (omega (arith, f .kept .1 .1 .1 .0, s .pre .1 .for-edges)) (g .walked .now) (s .pre .1 .for-walk),
+          (g .nodes .now) (g .ends .now) (f .ensures) (s .pre .0) (f .kept .1 .1 .0) (f .kept .1 .1 .1 .0 ∙ s .pre .1 .same ∙ sym (f .kept
+          .1 .1 .1 .1 .0)) (omega (arith, f .kept .1 .1 .1 .0, s .pre .1 .for-edges)) (g .walked .now) (s .pre .1 .for-walk),
       fresh-marks (g .tol2) (g .segments .now) (g .s) (g .points .now) (f .result .points) (f .result .edges) (f .last .1 .1 .0)
           (f .last .1 .1 .1 .0) (f .last .1 .1 .1 .1 .0)
-          (g .nodes .now) (g .ends .now) (f .ensures) (s .pre .0) (f .kept .1 .1 .0) (f .kept .1 .1 .1 .0 ∙ s .pre .1 .same ∙ sym (f .kept .1 .1 .1 .1 .0)) (omega (arith, f .kept .1 .1 .1 .0, s .pre .1 .for-edges)) (g .used .now) (s .pre .1 .unmarked),
+          (g .nodes .now) (g .ends .now) (f .ensures) (s .pre .0) (f .kept .1 .1 .0) (f .kept .1 .1 .1 .0 ∙ s .pre .1 .same ∙ sym (f .kept
+          .1 .1 .1 .1 .0)) (omega (arith, f .kept .1 .1 .1 .0, s .pre .1 .for-edges)) (g .used .now) (s .pre .1 .unmarked),
       omega (arith, f .ensures .few-points, s .pre .1 .for-lasts),
       s .pre .1 .zeros,
     )
@@ -96,13 +107,18 @@ same-length-8 c = search needs
 
 returns : tie.Need-returns
 returns c =
-    let s = c .before .before .before .before .before .before .before .before .before .before .before .before .before .before .before .before .before .before .before .before .before .before .before .before .before .before .before .before .before .before .before .before .before .before .before .before .before .before in
+    let s = c .before .before .before .before .before .before .before .before .before .before .before .before .before .before .before
+    .before .before .before .before .before .before .before .before .before .before .before .before .before .before .before .before .before
+    .before .before .before .before .before .before in
     let g = s .args in
     let f =
-    c .before .before .before .before .before .before .before .before .before .before .before .before .before .before .before .before .before .before .before .before .before .before .before .before .before .weld in
+    c .before .before .before .before .before .before .before .before .before .before .before .before .before .before .before .before
+    .before .before .before .before .before .before .before .before .before .weld in
     gave (g .tol2) (g .segments .now) (g .s) (g .points .now) (f .result .points) (f .result .edges) (f .last .1 .1 .0)
     (f .last .1 .1 .1 .0) (f .last .1 .1 .1 .1 .0)
-    (g .nodes .now) (g .ends .now) (f .ensures) (s .pre .0) (f .kept .1 .1 .0) (f .kept .1 .1 .1 .0 ∙ s .pre .1 .same ∙ sym (f .kept .1 .1 .1 .1 .0)) (omega (arith, f .kept .1 .1 .1 .0, s .pre .1 .for-edges)) (c .before .before .before .before .before .before .before .before .before .before .stitch-edges .result) _ _
+    (g .nodes .now) (g .ends .now) (f .ensures) (s .pre .0) (f .kept .1 .1 .0) (f .kept .1 .1 .1 .0 ∙ s .pre .1 .same ∙ sym (f .kept .1 .1
+    .1 .1 .0)) (omega (arith, f .kept .1 .1 .1 .0, s .pre .1 .for-edges)) (c .before .before .before .before .before .before .before .before
+    .before .before .stitch-edges .result) _ _
     (c .before .before .before .before .before .before .before .before .before .before .stitch-edges .ensures)
 
 pub stitch-within-spec : {M : Type 1} → statement M
