@@ -1,0 +1,59 @@
+-- `replay_sections::input::word` is safe. Assumes nothing.
+use Prim.Native.Nat.{_≤_}
+use borrow.Author.Needs.{needs}
+use Rattle.replay_sections.proofs.input.word.Statement.{statement}
+use Rattle.replay_sections.proofs.input.word.Tie as tie
+use Rattle.replay_sections.proofs.input.wide.Reads as wide-reads
+
+abbrev Inv-loop : tie.InvT-loop
+Inv-loop bytes at w₀ k₀ w k = k ≤ 8
+
+abbrev μ-loop : tie.MeasureT-loop
+μ-loop bytes at w₀ k₀ w k = k
+
+loop-holds : tie.Need-loop-holds Inv-loop μ-loop
+loop-holds c = search needs
+
+sub-k : tie.Need-sub-k Inv-loop μ-loop
+sub-k c = search needs
+
+mul-w : tie.Need-mul-w Inv-loop μ-loop
+mul-w c = search needs
+
+add-wide : tie.Need-add-wide Inv-loop μ-loop
+add-wide c = search needs
+
+shared-slice-read-wide : tie.Need-shared-slice-read-wide Inv-loop μ-loop
+shared-slice-read-wide c = search needs
+
+wide-requires : tie.Need-wide-requires Inv-loop μ-loop
+wide-requires c κs = search needs
+
+add-w : tie.Need-add-w Inv-loop μ-loop
+add-w c = search needs
+
+loop-less : tie.Need-loop-less Inv-loop μ-loop
+loop-less c = search needs
+
+loop-again : tie.Need-loop-again Inv-loop μ-loop
+loop-again c = search needs
+
+returns : tie.Need-returns Inv-loop μ-loop
+returns c = search needs
+
+pub word-spec : {M : Type 1} → statement M
+word-spec =
+    tie.close
+    (tie.spec
+    Inv-loop
+    μ-loop
+    loop-holds
+    sub-k
+    mul-w
+    add-wide
+    shared-slice-read-wide
+    wide-requires
+    add-w
+    loop-less
+    loop-again
+    returns)
