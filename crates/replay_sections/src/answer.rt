@@ -1,6 +1,5 @@
 // An entry's answer to a case.
-ghost use mathlib.Core.Path.{_≡_};
-ghost use Prim.Native.Nat.{_+_, _<_, _≤_, min};
+ghost use Prim.Native.Nat.{_+_, _≤_, min};
 ghost use lib.ListN.{length};
 ghost use Rattle.replay_sections.specs.Code.{InOrder, Whole};
 use line::Line;
@@ -59,7 +58,6 @@ pub fn answer(
     ends: &mut [u32],
 ) -> [u64; 9]
     requires { ⌜ Whole (now words) (now values) l ⌝ }
-    ensures { λ r. ⌜ 9 ≡ length r ⌝ }
 {
     let a = l.coords;
     let b = l.origin;
@@ -94,9 +92,7 @@ fn enter(
     numbers: &mut [f64],
     nodes: &mut [u32],
     ends: &mut [u32],
-) -> [u64; 9]
-    ensures { λ r. ⌜ 9 ≡ length r ⌝ }
-{
+) -> [u64; 9] {
     match entry {
         1 => told(section::section_cell_by_plane(
             t,
@@ -118,18 +114,14 @@ fn enter(
     }
 }
 
-fn told(s: Section) -> [u64; 9]
-    ensures { λ r. ⌜ 9 ≡ length r ⌝ }
-{
+fn told(s: Section) -> [u64; 9] {
     match s {
         Section::Refused(k) => refusal(k),
         Section::Cut(s) => counts(s),
     }
 }
 
-fn counts(s: Stitched) -> [u64; 9]
-    ensures { λ r. ⌜ 9 ≡ length r ⌝ }
-{
+fn counts(s: Stitched) -> [u64; 9] {
     [
         0,
         s.points as u64,
@@ -143,26 +135,20 @@ fn counts(s: Stitched) -> [u64; 9]
     ]
 }
 
-fn told_line(l: Line) -> [u64; 9]
-    ensures { λ r. ⌜ 9 ≡ length r ⌝ }
-{
+fn told_line(l: Line) -> [u64; 9] {
     match l {
         Line::Refused(k) => refusal(k),
         Line::Cut(n) => [0, n as u64, 0, 0, 0, 0, 0, 0, 0],
     }
 }
 
-fn told_tolerance(t: Tolerance) -> [u64; 9]
-    ensures { λ r. ⌜ 9 ≡ length r ⌝ }
-{
+fn told_tolerance(t: Tolerance) -> [u64; 9] {
     match t {
         Tolerance::Refused(k) => refusal(k),
         Tolerance::Of(x) => [0, 0, 0, 0, 0, 0, 0, 0, crate::compared::pattern(x)],
     }
 }
 
-fn refusal(k: u8) -> [u64; 9]
-    ensures { λ r. ⌜ 9 ≡ length r ⌝ }
-{
+fn refusal(k: u8) -> [u64; 9] {
     [k as u64, 0, 0, 0, 0, 0, 0, 0, 0]
 }

@@ -1,7 +1,5 @@
 // What was written, compared with the words that were recorded of it.
-ghost use mathlib.Core.Path.{_≡_};
-ghost use Prim.Native.Nat.{_+_, _<_, _≤_};
-ghost use lib.ListN.{length};
+ghost use Prim.Native.Nat.{_<_};
 
 // What stands in the lent buffers before an entry is called.
 pub const NO_NUMBER: f64 = -12345678.0;
@@ -139,11 +137,7 @@ pub fn same_words(a: &[u64], b: &[u64]) -> bool {
     true
 }
 
-// A number's pattern as it is recorded: -0.0 as 0.0, and every NaN as 7ff8000000000000.
+// A number's pattern as it is recorded: -0.0 as 0.0.
 pub fn pattern(x: f64) -> u64 {
-    let y = x + 0.0;
-    if y != y {
-        return 0x7ff8_0000_0000_0000;
-    }
-    f64::to_bits(y)
+    words::pattern(x + 0.0)
 }

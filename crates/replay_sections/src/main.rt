@@ -4,7 +4,8 @@
 // Standard input is made by
 //     MEFIKIT_SRC=FOLDER cargo run --manifest-path compare/Cargo.toml --config compare/.cargo/config.toml \
 //         --offline --release --features mefikit --bin record -- crates/replay_sections/stdin
-// and its format stands in compare/src/recorded.rs: words of 64 bits, lowest byte first.
+// and its format stands in compare/src/recorded.rs: words of 64 bits, lowest byte first. With any one expected word
+// changed (a refusal, a count, a tolerance, a number, a node or an end) one case differs.
 mod answer;
 mod compared;
 mod input;

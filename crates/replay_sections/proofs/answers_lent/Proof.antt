@@ -4,8 +4,6 @@ use lib.ListN.{length-take}
 use borrow.Author.Needs.{needs}
 use Rattle.replay_sections.proofs.answers_lent.Statement.{statement}
 use Rattle.replay_sections.proofs.answers_lent.Tie as tie
-use Rattle.replay_sections.proofs.answers_in.Reads as answers-in-reads
-use Rattle.replay_sections.proofs.input.at_most.Reads as at-most-reads
 
 mul-at-most : tie.Need-mul-at-most
 mul-at-most c = search needs

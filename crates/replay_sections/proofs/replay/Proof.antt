@@ -5,10 +5,6 @@ use Rattle.replay_sections.specs.Code.{Buffers}
 use borrow.Author.Needs.{needs}
 use Rattle.replay_sections.proofs.replay.Statement.{statement}
 use Rattle.replay_sections.proofs.replay.Tie as tie
-use Rattle.replay_sections.proofs.input.next_word.Reads as next-word-reads
-use Rattle.replay_sections.proofs.input.read_case.Reads as read-case-reads
-use Rattle.replay_sections.proofs.replay_case.Reads as replay-case-reads
-use Rattle.replay_sections.proofs.tally.Reads as tally-reads
 
 abbrev Inv-loop : tie.InvT-loop
 Inv-loop bytes₀ words₀ numbers₀ read₀ refused₀ differing₀ left₀ bytes words numbers read refused differing left = Buffers bytes words numbers

@@ -4,7 +4,6 @@ use lib.ListN.{length-take}
 use borrow.Author.Needs.{needs}
 use Rattle.replay_sections.proofs.compared.same_buffers.Statement.{statement}
 use Rattle.replay_sections.proofs.compared.same_buffers.Tie as tie
-use Rattle.replay_sections.proofs.compared.same_lists.Reads as same-lists-reads
 
 returns : tie.Need-returns
 returns c = search needs

@@ -5,8 +5,6 @@ use lib.ListN.{length}
 use borrow.Author.Needs.{needs}
 use Rattle.replay_sections.proofs.compared.same_indices.Statement.{statement}
 use Rattle.replay_sections.proofs.compared.same_indices.Tie as tie
-use Rattle.replay_sections.proofs.compared.no_indices.Reads as no-indices-reads
-use Rattle.replay_sections.proofs.compared.wide.Reads as wide-reads
 
 abbrev Inv-loop : tie.InvT-loop
 Inv-loop recorded out n i₀ i = (i ≤ n) × (n ≤ length out) × (n ≡ length recorded)

@@ -5,8 +5,6 @@ use lib.ListN.{length}
 use borrow.Author.Needs.{needs}
 use Rattle.replay_sections.proofs.compared.same_numbers.Statement.{statement}
 use Rattle.replay_sections.proofs.compared.same_numbers.Tie as tie
-use Rattle.replay_sections.proofs.compared.no_numbers.Reads as no-numbers-reads
-use Rattle.replay_sections.proofs.compared.pattern.Reads as pattern-reads
 
 abbrev Inv-loop : tie.InvT-loop
 Inv-loop recorded out n i₀ i = (i ≤ n) × (n ≤ length out) × (n ≡ length recorded)

@@ -6,8 +6,6 @@ use lib.ListN.{length, length-set}
 use borrow.Author.Needs.{needs}
 use Rattle.replay_sections.proofs.input.decode.Statement.{statement}
 use Rattle.replay_sections.proofs.input.decode.Tie as tie
-use Rattle.replay_sections.proofs.input.number.Reads as number-reads
-use Rattle.replay_sections.proofs.input.word.Reads as word-reads
 
 abbrev Inv-loop : tie.InvT-loop
 Inv-loop bytes n words₀ numbers₀ i₀ words numbers i = (i ≤ n) × (length words ≡ length words₀) × (length numbers ≡ length numbers₀)

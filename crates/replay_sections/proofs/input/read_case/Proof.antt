@@ -4,10 +4,6 @@ use lib.ListN.{length-take}
 use borrow.Author.Needs.{needs}
 use Rattle.replay_sections.proofs.input.read_case.Statement.{statement}
 use Rattle.replay_sections.proofs.input.read_case.Tie as tie
-use Rattle.io.proofs.read_full.Reads as read-full-reads
-use Rattle.replay_sections.proofs.input.at_most.Reads as at-most-reads
-use Rattle.replay_sections.proofs.input.decode.Reads as decode-reads
-use Rattle.replay_sections.proofs.input.next_word.Reads as next-word-reads
 
 next-word-requires : tie.Need-next-word-requires
 next-word-requires c κs = search needs

@@ -1,4 +1,4 @@
--- `replay_sections::input::number` is safe: past the test the pattern is no NaN's. Assumes nothing.
+-- `words::number` is safe: past the test the pattern is no NaN's. Assumes nothing.
 use mathlib.Core.Path.{sym, subst}
 use mathlib.Core.Bool.{Bool, not}
 use Prim.Native.Nat.{_*_, _%_, _^_}
@@ -7,8 +7,8 @@ use lib.Arith.{le→nltb}
 use lib.Ieee.{binary64}
 use lib.Ieee.Bits.{nanBits-above}
 use borrow.Author.Needs.{needs}
-use Rattle.replay_sections.proofs.input.number.Statement.{statement}
-use Rattle.replay_sections.proofs.input.number.Tie as tie
+use Rattle.words.proofs.number.Statement.{statement}
+use Rattle.words.proofs.number.Tie as tie
 
 returns : tie.Need-returns
 returns c = search needs
