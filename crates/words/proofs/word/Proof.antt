@@ -1,8 +1,8 @@
--- `replay_roots::word` is safe. Assumes nothing.
+-- `words::word` is safe. Assumes nothing.
 use Prim.Native.Nat.{_≤_}
 use borrow.Author.Needs.{needs}
-use Rattle.replay_roots.proofs.word.Statement.{statement}
-use Rattle.replay_roots.proofs.word.Tie as tie
+use Rattle.words.proofs.word.Statement.{statement}
+use Rattle.words.proofs.word.Tie as tie
 
 abbrev Inv-loop : tie.InvT-loop
 Inv-loop bytes at w₀ k₀ w k = k ≤ 8
