@@ -7,6 +7,7 @@ from typing import TYPE_CHECKING
 import numpy as np
 
 from .place import Sides
+from .version import VERSION
 
 if TYPE_CHECKING:
     from .plane import PlaneCut
@@ -34,6 +35,7 @@ class UndrawnCell:
 class PlaneRecord:
     """The record of a plane cut. `print` it, or take `as_dict`."""
 
+    version: str
     source: str
     origin: list[float]
     normal: list[float]
@@ -88,8 +90,8 @@ class PlaneRecord:
     def sentence(self) -> str:
         """The summary, for a methods section."""
         start = (
-            f"The mesh's {sum(self.cells_by_type.values())} cells were cut with Cicelybeam by the plane through "
-            f"{_vector(self.origin)} with unit normal {_vector(self.normal)} and tolerance {self.tolerance:.3g}: "
+            f"The mesh's {sum(self.cells_by_type.values())} cells were cut with Cicelybeam {self.version} by the plane through "
+            f"{vector(self.origin)} with unit normal {vector(self.normal)} and tolerance {self.tolerance:.3g}: "
             f"{self.with_edges} cells list {self.listed} edges, of which {self.in_loops} bound the {self.polygons} polygons "
             f"drawn, with a total area of {self.area:.12g}"
         )
@@ -111,7 +113,7 @@ class PlaneRecord:
         if self.dropped:
             start += "; the mesh has cells that meshio left out while reading"
         if any(self.not_cut_reached.values()):
-            start += f"; {_counted(self.not_cut_reached)} that the plane may reach are of types that are not cut"
+            start += f"; {counted(self.not_cut_reached)} that the plane may reach are of types that are not cut"
         return start + "."
 
     def as_dict(self) -> dict:
@@ -121,28 +123,28 @@ class PlaneRecord:
     def __str__(self) -> str:
         lines = [
             ("mesh", self.source),
-            ("cells", f"{self.cells}: {_counted(self.cells_by_type)}"),
+            ("cells", f"{self.cells}: {counted(self.cells_by_type)}"),
             ("not cut", self._not_cut()),
-            ("plane", f"through {_vector(self.origin)}, normal {_vector(self.normal)}"),
+            ("plane", f"through {vector(self.origin)}, normal {vector(self.normal)}"),
             ("tolerance", f"{self.tolerance:.6g} (the mesh's own: {self.mesh_tolerance:.6g})"),
             ("passed through", f"{self.crossed} cells; {self.with_edges} cells list an edge"),
             ("edges", f"{self.listed} listed: {self.in_loops} in loops, {self.flat} flat, {self.open} open"),
             ("drawn", f"{self.polygons} polygons, area {self.area:.12g}"),
             ("coincide", f"{self.coincident_polygons} polygons, area counted again {self.repeated_area:.12g}"),
-            ("no edge", f"{len(self.crossed_without_edge)} cells passed through{_some(self.crossed_without_edge)}"),
+            ("no edge", f"{len(self.crossed_without_edge)} cells passed through{some(self.crossed_without_edge)}"),
             ("no segment", f"{len(self.crossed_face_without_segment)} cells with a face passed through"
-                           f"{_some(self.crossed_face_without_segment)}"),
+                           f"{some(self.crossed_face_without_segment)}"),
         ]
         if self.within_tolerance:
-            lines.append(("within tolerance", f"{len(self.within_tolerance)} cells with all corners{_some(self.within_tolerance)}"))
+            lines.append(("within tolerance", f"{len(self.within_tolerance)} cells with all corners{some(self.within_tolerance)}"))
         if self.touching:
             lines.append(("only touched", f"{self.touching} cells, along one open edge each, which bounds no area"))
         if self.not_finite:
-            lines.append(("not finite", f"{len(self.not_finite)} cells{_some(self.not_finite)}"))
+            lines.append(("not finite", f"{len(self.not_finite)} cells{some(self.not_finite)}"))
         text = [f"{name:<18}{value}" for name, value in lines]
         undrawn = [cell for cell in self.undrawn if not cell.touching]
         text += [f"NOT DRAWN         cell {u.cell} ({u.type}): {u.flat} flat and {u.open} open of {u.listed} edges, "
-                 f"near {_vector(u.points[0]) if u.points else 'no point'}" for u in undrawn[:20]]
+                 f"near {vector(u.points[0]) if u.points else 'no point'}" for u in undrawn[:20]]
         if len(undrawn) > 20:
             text.append(f"NOT DRAWN         and {len(undrawn) - 20} more cells, all in the report")
         text += [f"WARNING           {warning}" for warning in self.warnings]
@@ -156,15 +158,21 @@ class PlaneRecord:
         return ", ".join(parts) or "none"
 
 
-def _counted(numbers: dict[str, int]) -> str:
-    return ", ".join(f"{count} {name}" for name, count in numbers.items() if count) or "none"
+def counted(numbers: dict[str, int], otherwise: str = "none") -> str:
+    """The numbers of cells by type in words.
+
+    >>> counted({"tetra": 3, "pyramid": 1})
+    '3 tetra, 1 pyramid'
+    """
+    return ", ".join(f"{count} {name}" for name, count in numbers.items() if count) or otherwise
 
 
-def _vector(numbers: list[float]) -> str:
+def vector(numbers: list[float]) -> str:
     return "(" + ", ".join(f"{x:.6g}" for x in numbers) + ")"
 
 
-def _some(cells: list[int]) -> str:
+def some(cells: list[int]) -> str:
+    """The first of these cells, after a colon."""
     if not cells:
         return ""
     return ": " + ", ".join(map(str, cells[:8])) + (", ..." if len(cells) > 8 else "")
@@ -177,7 +185,7 @@ def plane_record(
     mesh = cut.mesh
     counts = cut.counts.sum(axis=0).tolist()
     record = PlaneRecord(
-        mesh.source, list(cut.frame.origin), list(cut.frame.normal), tol, own, mesh.total, mesh.types(), mesh.not_cut(),
+        VERSION, mesh.source, list(cut.frame.origin), list(cut.frame.normal), tol, own, mesh.total, mesh.types(), mesh.not_cut(),
         _not_cut_reached(cut, sides), handed_over, len(crossed), len(cut.cells), len(cut), float(cut.polygon_area.sum()),
         *counts, _undrawn(cut, crossed), no_edge, no_segment, _within_tolerance(cut, sides), _not_finite(cut, sides),
         cut.coincident.polygons, len(cut.coincident.groups), cut.coincident.repeated_area,
@@ -228,13 +236,15 @@ def _not_finite(cut: PlaneCut, sides: Sides) -> list[int]:
     return found
 
 
+def below_own(tol: float, own: float, cut: str) -> str:
+    return (f"the tolerance {tol:.3g} is below the mesh's own, {own:.3g}: a crossing that was rounded may not count as on the {cut}, "
+            "its edge is then not found, and no count of edges shows it")
+
+
 def _warnings(record: PlaneRecord, remarks: list[str]) -> list[str]:
     found = [f"meshio says: {remark}" for remark in remarks]
     if not record.tolerance >= record.mesh_tolerance:
-        found.append(
-            f"the tolerance {record.tolerance:.3g} is below the mesh's own, {record.mesh_tolerance:.3g}: a crossing that was "
-            "rounded may not count as on the plane, its edge is then not found, and no count of edges shows it"
-        )
+        found.append(below_own(record.tolerance, record.mesh_tolerance, "plane"))
     if record.crossed_without_edge or record.crossed_face_without_segment:
         found.append(
             f"of {record.crossed} cells that the plane passes through, {len(record.crossed_without_edge)} list no edge and "
@@ -249,5 +259,5 @@ def _warnings(record: PlaneRecord, remarks: list[str]) -> list[str]:
     if record.not_finite:
         found.append("cells with NaN or infinite corner coordinates are cut as document 01 says, a NaN distance as outside")
     if any(record.not_cut_reached.values()):
-        found.append(f"cells of types that are not cut may reach the plane: {_counted(record.not_cut_reached)}")
+        found.append(f"cells of types that are not cut may reach the plane: {counted(record.not_cut_reached)}")
     return found

@@ -16,8 +16,9 @@ from .mesh import Mesh, of_meshio, read
 from .plane import PlaneCut, cut_plane
 from .record import PlaneRecord
 from .refusal import CicelybeamError, MeshError, Refused
+from .version import VERSION as __version__
 
 __all__ = [
     "CicelybeamError", "LineCut", "LineRecord", "Mesh", "MeshError", "PlaneCut", "PlaneRecord", "Refused",
-    "cut_line", "cut_plane", "of_meshio", "read", "slice_tolerance",
+    "__version__", "cut_line", "cut_plane", "of_meshio", "read", "slice_tolerance",
 ]

@@ -10,6 +10,7 @@ from . import mesh as meshes
 from .line import LineCut, cut_line
 from .plane import PlaneCut, cut_plane
 from .refusal import CicelybeamError
+from .version import VERSION
 
 STATUS = """\
 exit status:
@@ -67,6 +68,7 @@ def _with_signs(arguments: list[str]) -> list[str]:
 def _parser() -> argparse.ArgumentParser:
     raw = argparse.RawDescriptionHelpFormatter
     parser = argparse.ArgumentParser("cicelybeam", description=WHAT, epilog=STATUS, formatter_class=raw)
+    parser.add_argument("--version", action="version", version=f"cicelybeam {VERSION}")
     commands = parser.add_subparsers(dest="command", required=True, metavar="plane|line")
     plane = commands.add_parser("plane", help="cut by a plane", description=PLANE, formatter_class=raw, epilog=(
         "example:\n  cicelybeam plane part.msh --origin 0,0,0.5 --normal 0,0,1 --picture part.svg\n\n" + STATUS))
@@ -80,16 +82,16 @@ def _parser() -> argparse.ArgumentParser:
             "the distance up to which a point counts as on the cut, and two points as one; by default the mesh's own, "
             "below which crossings that were rounded can be missed"))
         command.add_argument("--picture", type=Path, metavar="FILE", help="a picture, .svg, .png or .pdf")
+        command.add_argument("--colour", default="type", metavar="BY", help="the picture by type, by cell, or by a cell field")
         command.add_argument("--report", type=Path, metavar="FILE", help="the record as .json, or its cells as .csv")
+        command.add_argument("--allow-undrawn", action="store_true", help="exit status 0 also where a piece is not drawn")
+        command.add_argument("--allow-touching", action="store_true", help=(
+            "exit status 0 also where all that is not drawn is edges of cells that the plane only touches along one edge"))
         command.add_argument("--allow-uncut", action="store_true", help=(
             "exit status 0 also where the cut may reach cells of types that are not cut"))
         command.add_argument("--quiet", action="store_true", help="print warnings only")
-    plane.add_argument("--colour", default="type", metavar="BY", help="fill the picture by type, by cell, or by a cell field")
     plane.add_argument("--vtk", type=Path, metavar="FILE", help=(
         "the polygons with cell, area and counts as cell data: .vtp, or any format that meshio writes"))
-    plane.add_argument("--allow-undrawn", action="store_true", help="exit status 0 also where a piece is not drawn")
-    plane.add_argument("--allow-touching", action="store_true", help=(
-        "exit status 0 also where all that is not drawn is edges of cells that the plane only touches along one edge"))
     return parser
 
 
@@ -116,6 +118,10 @@ def _tolerance(text: str) -> float:
 def _run(given: argparse.Namespace) -> int:
     _check_names(given)
     mesh = meshes.read(given.mesh)
+    if given.picture:
+        from .picture import check_colour
+
+        check_colour(mesh, given.colour)
     cut = _cut(given, mesh)
     if not given.quiet:
         print(cut.record)
@@ -177,7 +183,7 @@ def _write(given: argparse.Namespace, cut: PlaneCut | LineCut) -> None:
     if given.picture:
         from .picture import draw
 
-        draw(cut, given.picture, given.colour if given.command == "plane" else "type")
+        draw(cut, given.picture, given.colour)
 
 
 def _status(given: argparse.Namespace, cut: PlaneCut | LineCut) -> int:

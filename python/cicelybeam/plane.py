@@ -13,7 +13,7 @@ from .coincident import Coincident, find_coincident
 from .library import MOST_ENTRIES, floats, library, slice_tolerance
 from .mesh import Block, Mesh, Polyhedra, of_meshio
 from .place import Frame, Sides
-from .record import PlaneRecord, plane_record
+from .record import PlaneRecord, counted, plane_record
 from .refusal import MeshError, Refused
 
 Progress = Callable[[int, int], None]  # cells done, and to do in all
@@ -58,6 +58,13 @@ class PlaneCut:
         np.add.at(found, np.searchsorted(self.cells, self.polygon_cell), self.polygon_area)
         return found
 
+    def cell_middle(self) -> np.ndarray:
+        """The mean of the points that the cut gives for each of `cells`."""
+        first, after = self.cell_points.T
+        if not len(self.cells):
+            return np.zeros((0, 2))
+        return np.add.reduceat(self.points, first, axis=0) / (after - first)[:, None]
+
     def undrawn_points(self) -> dict[int, np.ndarray]:
         """For each cell with edges that were not drawn: the points that the cut gives for it."""
         rows = np.flatnonzero(self.counts[:, 2] + self.counts[:, 3])
@@ -95,7 +102,7 @@ def cut_plane(
     if not found.blocks and not found.others:
         raise MeshError(f"{found.source}: the mesh has no cells")
     if not any(map(len, found.blocks)):
-        raise MeshError(f"{found.source}: no cell is of a type that is cut in space; it has {_listed(found)}")
+        raise MeshError(f"{found.source}: no cell is of a type that is cut in space; it has {counted(found.not_cut())}")
     frame = place.plane(place.vector(origin, 3), place.vector(normal, 3))
     own = slice_tolerance(found.points)
     tol = place.chosen_tolerance(tolerance, own, found.source)
@@ -106,10 +113,6 @@ def cut_plane(
     for block, cells in zip(found.blocks, kept):
         cutter.cut(block, cells, sides, progress)
     return cutter.result(frame, sides, own)
-
-
-def _listed(mesh: Mesh) -> str:
-    return ", ".join(f"{count} {name}" for name, count in mesh.not_cut().items()) or "none"
 
 
 class _Cutter:

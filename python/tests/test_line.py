@@ -63,3 +63,47 @@ def test_other_types_are_told():
     mesh = meshio.Mesh(CUBE, [("tetra", [[0, 1, 2, 5]]), ("pyramid", [[0, 1, 2, 3, 6]])])
     record = cicelybeam.cut_line(mesh, (0, 0, 0), (1, 0, 0), 0).record
     assert not record.all_cut and len(record.warnings) == 2 and "1 pyramid" in str(record)
+
+
+OPEN_BRICK = [[0, 3, 2, 1], [4, 5, 6, 7], [0, 1, 5, 4], [2, 3, 7, 6], [1, 2, 6, 5]]
+
+
+@pytest.mark.parametrize("height,status", [(0.5, [0]), (1.5, [])])
+def test_a_section_that_does_not_close_is_told(height, status):
+    """A polyhedron that lacks a face: its section is open, so the line has no segment in it, and that is told."""
+    mesh = meshio.Mesh(CUBE, [("polyhedron8", [[np.array(face) for face in OPEN_BRICK]])])
+    record = cicelybeam.cut_line(mesh, (0, 0.5, height), (1, 0, 0)).record
+    assert (record.segments, record.undrawn) == (0, status)
+    assert record.all_drawn == (not status) and bool(record.warnings) == bool(status)
+
+
+def test_a_section_that_is_open_far_from_the_line_is_not_told():
+    """The plane that holds the line passes through both cells; the line only through the whole one."""
+    whole = [*OPEN_BRICK, [3, 0, 4, 7]]
+    points = np.concatenate([CUBE, CUBE + [0, 0, 5]])
+    cells = [[np.array(face) for face in whole], [8 + np.array(face) for face in OPEN_BRICK]]
+    record = cicelybeam.cut_line(meshio.Mesh(points, [("polyhedron8", cells)]), (0, 0.5, 0.4), (1, 0, 0)).record
+    assert record.all_drawn and record.covered == pytest.approx(1)
+
+
+def test_tolerance_zero_is_told():
+    mesh = box(3, "tetra")
+    record = cicelybeam.cut_line(mesh, (0.1, 0.2, 0.3), (1, 2, 3), 0).record
+    assert not record.all_drawn and record.undrawn and "may be missing" in str(record)
+    assert cicelybeam.cut_line(mesh, (0.1, 0.2, 0.3), (1, 2, 3)).record.all_drawn
+
+
+def test_plane_cell_without_segment_is_told():
+    """With this tolerance all corners of the small cell are on the line, and it has no segment."""
+    mesh = meshio.Mesh([[0, 0], [1, 0], [1, 1], [0, 1.0]], [("quad", [[0, 1, 2, 3]])])
+    record = cicelybeam.cut_line(mesh, (0, 0.5), (1, 0), 5.0).record
+    assert record.without_segment == [0] and not record.all_drawn
+
+
+def test_stretches_of_the_plate():
+    """A line across the hole: the plate from -3 to -1 and from 1 to 3."""
+    import sample
+
+    record = cicelybeam.cut_line(sample.plate(), (0, 0, 0.4), (1, 0, 0)).record
+    assert np.array(record.stretches) == pytest.approx(np.array([[-3, -1], [1, 3]]))
+    assert record.covered == pytest.approx(4)

@@ -18,7 +18,7 @@ from .refusal import MeshError, Refused
 # Types that meshio 5.0.0 names and whose dimension its table lacks, so that it fails on files that have them.
 for _name, _dimension in {"wedge12": 3, "wedge15": 3, "hexahedron24": 3, "penta_prism": 3, "hexa_prism": 3,
                           "pyramid13": 3, "triangle7": 2, "quad6": 2, "pixel": 2}.items():
-    meshio._mesh.topological_dimension.setdefault(_name, _dimension)
+    getattr(meshio._mesh, "topological_dimension", {}).setdefault(_name, _dimension)
 
 
 @dataclass
@@ -148,12 +148,19 @@ class Mesh:
             found[name] += count
         return dict(found)
 
+    def block_of(self, cell: int) -> Block | Polyhedra:
+        """The block of a cell that is cut."""
+        return next(block for block in self.blocks if block.first <= cell < block.first + len(block))
+
     def name(self, cell: int) -> str:
-        """A cell's number and type in words."""
-        for block in self.blocks:
-            if block.first <= cell < block.first + len(block):
-                return f"cell {cell} ({block.name}, number {cell - block.first} of its block)"
-        return f"cell {cell}"
+        """The number and type of a cell that is cut, in words."""
+        block = self.block_of(cell)
+        return f"cell {cell} ({block.name}, number {cell - block.first} of its block)"
+
+    def middle(self, cell: int) -> np.ndarray:
+        """The mean of the corners of a cell that is cut."""
+        block = self.block_of(cell)
+        return self.points[block.corners(cell - block.first)].mean(axis=0)
 
     def type_of(self, cells: np.ndarray) -> np.ndarray:
         """meshio's type of each of these cells."""

@@ -13,7 +13,7 @@ from .line import LineCut
 from .plane import PlaneCut
 from .refusal import CicelybeamError
 
-PLANE_COLUMNS = ("cell", "type", "listed", "in_loops", "flat", "open", "area", "passed_through_without")
+PLANE_COLUMNS = ("cell", "type", "listed", "in_loops", "flat", "open", "area", "passed_through_without", "x", "y", "z")
 
 
 def check_report(path: Path) -> None:
@@ -46,17 +46,23 @@ def _plain(value: object) -> object:
 
 
 def plane_rows(cut: PlaneCut) -> tuple[tuple[str, ...], list[tuple]]:
-    """A row for each cell that lists an edge, or that the plane passes through and that lacks one."""
+    """A row for each cell that lists an edge, or that the plane passes through and that lacks one.
+
+    x, y, z is the mean of the points that the cut gives for the cell, or of its corners where it gives none.
+    """
     lacking = {cell: "any edge" for cell in cut.record.crossed_without_edge}
     lacking.update({cell: "a face's segment" for cell in cut.record.crossed_face_without_segment})
     types = cut.mesh.type_of(cut.cells)
     rows = [
-        (int(cell), str(name), *counts, float(area), lacking.get(int(cell), ""))
-        for cell, name, counts, area in zip(cut.cells, types, cut.counts.tolist(), cut.cell_area())
+        (int(cell), str(name), *counts, float(area), lacking.get(int(cell), ""), *middle)
+        for cell, name, counts, area, middle in zip(
+            cut.cells, types, cut.counts.tolist(), cut.cell_area(), cut.frame.in_space(cut.cell_middle()).tolist())
     ]
     unlisted = np.array(cut.record.crossed_without_edge, dtype=np.int64)
-    names = cut.mesh.type_of(unlisted)
-    rows += [(int(cell), str(name), 0, 0, 0, 0, 0.0, "any edge") for cell, name in zip(unlisted, names)]
+    rows += [
+        (int(cell), str(name), 0, 0, 0, 0, 0.0, "any edge", *cut.mesh.middle(cell).tolist())
+        for cell, name in zip(unlisted, cut.mesh.type_of(unlisted))
+    ]
     return PLANE_COLUMNS, sorted(rows)
 
 

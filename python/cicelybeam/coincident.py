@@ -5,6 +5,9 @@ from dataclasses import dataclass
 
 import numpy as np
 
+# A polygon is held against this many that follow it in its square: more can only be where squares are larger than cells.
+NEIGHBOURS = 16
+
 
 @dataclass(frozen=True)
 class Coincident:
@@ -34,19 +37,26 @@ def find_coincident(
     leader = np.arange(len(ends))
     with np.errstate(all="ignore"):
         for shift in ((0.0, 0.0), (0.5, 0.0), (0.0, 0.5), (0.5, 0.5)):
-            keys = np.floor(means / size + shift)
-            order = np.lexsort((ends - starts, keys[:, 1], keys[:, 0]))
-            same = (keys[order[1:]] == keys[order[:-1]]).all(axis=1)
-            for k in np.flatnonzero(same).tolist():
-                a, b = int(order[k]), int(order[k + 1])
+            keys = np.column_stack([np.floor(means / size + shift), ends - starts])
+            for a, b in _in_one_square(keys):
                 if _match(points, nodes[starts[a] : ends[a]], nodes[starts[b] : ends[b]], 2 * tol):
                     _join(leader, a, b)
     return _groups(leader, areas)
 
 
+def _in_one_square(keys: np.ndarray) -> list[tuple[int, int]]:
+    """Pairs of rows that are equal, of neighbours in sorted order."""
+    order = np.lexsort(keys.T)
+    pairs: list[tuple[int, int]] = []
+    for step in range(1, min(NEIGHBOURS, len(order))):
+        same = np.flatnonzero((keys[order[step:]] == keys[order[:-step]]).all(axis=1))
+        if not len(same):
+            break
+        pairs += zip(order[same].tolist(), order[same + step].tolist())
+    return pairs
+
+
 def _match(points: np.ndarray, a: np.ndarray, b: np.ndarray, within: float) -> bool:
-    if len(a) != len(b):
-        return False
     apart = np.linalg.norm(points[a][:, None] - points[b][None], axis=2)
     return bool((apart.min(axis=0) <= within).all() and (apart.min(axis=1) <= within).all())
 

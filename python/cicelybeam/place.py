@@ -78,6 +78,10 @@ class Frame:
         o, u, v = (np.array(a) for a in (self.origin, self.u, self.v))
         return o + points[:, :1] * u + points[:, 1:] * v
 
+    def in_plane(self, points: np.ndarray) -> np.ndarray:
+        """Points in space, three numbers each, as the points of the plane below or above which they are."""
+        return (points - np.array(self.origin)) @ np.array([self.u, self.v]).T
+
 
 def plane(origin: Vector, normal: Vector) -> Frame:
     """The plane of a plane cut."""
