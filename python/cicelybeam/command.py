@@ -3,6 +3,7 @@ from __future__ import annotations
 
 import argparse
 import math
+import os
 import sys
 from pathlib import Path
 
@@ -124,12 +125,23 @@ def _run(given: argparse.Namespace) -> int:
         check_colour(mesh, given.colour)
     cut = _cut(given, mesh)
     if not given.quiet:
-        print(cut.record)
+        _print(str(cut.record))
     else:
         for warning in cut.record.warnings:
             print(f"cicelybeam: {warning}", file=sys.stderr)
     _write(given, cut)
-    return _status(given, cut)
+    status, why = _status(given, cut)
+    if status:
+        print(f"cicelybeam: exit status {status}: {why}", file=sys.stderr)
+    return status
+
+
+def _print(text: str) -> None:
+    """Prints; a reader that stops early, as `head` does, must not keep the files from being written."""
+    try:
+        print(text, flush=True)
+    except BrokenPipeError:
+        os.dup2(os.open(os.devnull, os.O_WRONLY), sys.stdout.fileno())
 
 
 def _check_names(given: argparse.Namespace) -> None:
@@ -186,8 +198,14 @@ def _write(given: argparse.Namespace, cut: PlaneCut | LineCut) -> None:
         draw(cut, given.picture, given.colour)
 
 
-def _status(given: argparse.Namespace, cut: PlaneCut | LineCut) -> int:
-    if not cut.record.all_drawn and not given.allow_undrawn:
-        if not (given.allow_touching and cut.record.only_touching):
-            return 3
-    return 4 if not cut.record.all_cut and not given.allow_uncut else 0
+def _status(given: argparse.Namespace, cut: PlaneCut | LineCut) -> tuple[int, str]:
+    """The exit status, and what it says."""
+    record = cut.record
+    if not record.all_drawn and not given.allow_undrawn:
+        if not record.only_touching:
+            return 3, "a piece is not drawn (--allow-undrawn accepts it)"
+        if not given.allow_touching:
+            return 3, "the plane touches cells along edges that bound no area and are not drawn (--allow-touching accepts them)"
+    if not record.all_cut and not given.allow_uncut:
+        return 4, "cells of types that are not cut may reach the cut (--allow-uncut accepts them)"
+    return 0, ""

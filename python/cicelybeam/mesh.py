@@ -181,6 +181,8 @@ def read(path: str | Path) -> Mesh:
         raise MeshError(f"{path}: meshio cannot read it" + (f": {told}" if told else "")) from error
     except Exception as error:  # meshio's readers let many kinds through for damaged files
         told = f"{type(error).__name__}: {error}" if str(error) else type(error).__name__
+        if "gmsh:physical" in told:
+            told += " Save it from gmsh as version 2 (gmsh -format msh2), or without elements of no physical group (Mesh.SaveAll = 0)."
         raise MeshError(f"{path}: meshio cannot read it: {told}") from error
     mesh = of_meshio(found, str(path))
     mesh.remarks = [" ".join(part.split()) for part in _words(said).split("Warning:")[1:]]  # before: other readers' complaints

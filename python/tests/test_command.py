@@ -99,6 +99,28 @@ def test_status_of_what_is_not_drawn(path):
     assert run("plane", path, *ALONG, "--allow-touching") == 0
 
 
+def test_status_is_explained(path, capsys):
+    run("plane", path, *ALONG, "--quiet")
+    assert "exit status 3: the plane touches cells" in capsys.readouterr().err
+    run("plane", path, *PLANE, "--tolerance", 0, "--quiet")
+    assert "exit status 3: a piece is not drawn" in capsys.readouterr().err
+
+
+def test_line_with_status_3(path, capsys):
+    line = ["line", path, "--origin", "0.1,0.2,0.3", "--direction", "1,2,3", "--tolerance", 0]
+    assert run(*line) == 3 and "may be missing" in capsys.readouterr().out
+    assert run(*line, "--allow-undrawn") == 0
+
+
+def test_reader_that_stops_early(path, tmp_path):
+    """The files are written all the same, and no trace is printed."""
+    program = Path(__file__).resolve().parents[1] / "bin" / "cicelybeam"
+    report = tmp_path / "a.json"
+    command = f"{sys.executable} {program} plane {path} {' '.join(PLANE)} --report {report} | true"
+    done = subprocess.run(["bash", "-c", f"set -o pipefail; {command}"], capture_output=True, text=True)
+    assert (done.returncode, done.stderr) == (0, "") and json.loads(report.read_text())["all_drawn"]
+
+
 def test_status_of_types_that_are_not_cut(tmp_path):
     mesh = box(1)
     meshio.Mesh(mesh.points, [*mesh.cells, ("pyramid", np.array([[0, 1, 2, 3, 6]]))]).write(tmp_path / "a.vtu")

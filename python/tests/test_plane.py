@@ -223,10 +223,10 @@ def test_leaving_out_next_to_the_tolerance(kind, steps, side, normal, tol):
 
 
 def test_many_tetrahedra():
-    """196,608 tetrahedra, over 5,000 of them cut, in under three seconds."""
+    """215,622 tetrahedra, over 5,000 of them cut, in under three seconds."""
     import time
 
-    mesh = box(32, "tetra")
+    mesh = box(33, "tetra")
     start = time.perf_counter()
     record = cicelybeam.cut_plane(mesh, (0.1, 0.2, 0.5), (0.3, 0.2, 3)).record
     assert time.perf_counter() - start < 3
