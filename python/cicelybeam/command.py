@@ -37,6 +37,14 @@ the polygons drawn, how many are flat or open and so not drawn, and the area. Be
 methods section.
 """
 
+TERMS = """\
+terms:
+  listed    an edge of the cut: the trace of the plane on a face of a cell, its ends welded within the tolerance
+  in loops  edges of walks that close and have an area: the polygons that are drawn
+  flat      edges of walks that close without an area above the squared tolerance, not drawn
+  open      edges of walks that do not close, not drawn
+"""
+
 LINE = """\
 Cuts the cells of a space mesh or of a plane mesh by a line, and prints how much of the line lies in them. Give three
 numbers in space and two in the plane. A mesh without space cells whose third coordinates are all equal is a plane one.
@@ -72,12 +80,12 @@ def _parser() -> argparse.ArgumentParser:
     parser.add_argument("--version", action="version", version=f"cicelybeam {VERSION}")
     commands = parser.add_subparsers(dest="command", required=True, metavar="plane|line")
     plane = commands.add_parser("plane", help="cut by a plane", description=PLANE, formatter_class=raw, epilog=(
-        "example:\n  cicelybeam plane part.msh --origin 0,0,0.5 --normal 0,0,1 --picture part.svg\n\n" + STATUS))
+        "example:\n  cicelybeam plane part.msh --origin 0,0,0.5 --normal 0,0,1 --picture part.svg\n\n" + TERMS + "\n" + STATUS))
     line = commands.add_parser("line", help="cut by a line", description=LINE, formatter_class=raw, epilog=(
         "example:\n  cicelybeam line part.msh --origin 0,0,0.5 --direction 1,0,0 --report part.csv\n\n" + STATUS))
     for command, way in ((plane, "normal"), (line, "direction")):
         command.add_argument("mesh", type=Path, metavar="MESH", help="a mesh file of any format that meshio reads")
-        command.add_argument("--origin", type=_numbers, required=True, metavar="X,Y,Z", help="a point of the cut")
+        command.add_argument("--origin", type=_numbers, required=True, metavar="X,Y,Z", help="a point of the cut; two numbers in a plane mesh")
         command.add_argument(f"--{way}", type=_numbers, required=True, metavar="X,Y,Z", help="of any length but 0")
         command.add_argument("--tolerance", type=_tolerance, metavar="T", help=(
             "the distance up to which a point counts as on the cut, and two points as one; by default the mesh's own, "

@@ -64,8 +64,10 @@ def _section(axes, cut: PlaneCut, colour: str) -> None:
     _legend(axes, handles + _marks(axes, cut))
     axes.set_xlabel("along u, from the origin")
     axes.set_ylabel("along v, from the origin")
-    again = cut.record.repeated_area
-    axes.set_title(f"{len(cut)} polygons, area {cut.record.area:.6g}" + (f", {again:.6g} of it counted again" if again else ""), fontsize=10)
+    title = f"{len(cut)} polygons, area {cut.record.area:.6g}"
+    if cut.record.repeated_area:
+        title += f", {cut.record.repeated_area:.6g} of it counted again"
+    axes.set_title(title, fontsize=10)
     _fit(axes)
 
 

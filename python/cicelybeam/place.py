@@ -163,5 +163,5 @@ def vector(numbers: object, width: int) -> Vector:
     """These numbers as a vector of this width."""
     found = tuple(float(x) for x in np.asarray(numbers, dtype=np.float64).ravel())
     if len(found) != width:
-        raise Refused(5)
+        raise Refused(5, detail=f"the mesh has {width} dimensions, and {len(found)} numbers were given")
     return found

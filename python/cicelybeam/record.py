@@ -253,8 +253,8 @@ def _warnings(record: PlaneRecord, remarks: list[str]) -> list[str]:
         )
     if record.within_tolerance:
         found.append(
-            f"{len(record.within_tolerance)} cells lie wholly within the tolerance {record.tolerance:.3g} of the plane and have no section; "
-            "a node far from the others makes the mesh's own tolerance large: give --tolerance"
+            f"{len(record.within_tolerance)} cells lie wholly within the tolerance {record.tolerance:.3g} of the plane and have no "
+            "section; a node far from the others makes the mesh's own tolerance large: give --tolerance"
         )
     if record.not_finite:
         found.append("cells with NaN or infinite corner coordinates are cut as document 01 says, a NaN distance as outside")

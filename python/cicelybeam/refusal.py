@@ -22,10 +22,10 @@ class MeshError(CicelybeamError):
 
 
 class Refused(CicelybeamError):
-    """The library refused, by the number in `number`; `cell` is the cell's name where one was being cut."""
+    """The library refused, or would refuse, by the number in `number`; `cell` is the cell's name where one was being cut."""
 
-    def __init__(self, number: int, cell: str | None = None) -> None:
+    def __init__(self, number: int, cell: str | None = None, detail: str = "") -> None:
         self.number = number
         self.cell = cell
         words = WORDS.get(number, "no such refusal is known")
-        super().__init__(f"{cell + ': ' if cell else ''}{words} (refusal {number})")
+        super().__init__(f"{cell + ': ' if cell else ''}{words} (refusal {number}){': ' + detail if detail else ''}")
