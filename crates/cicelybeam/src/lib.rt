@@ -4,11 +4,11 @@ ghost use Prim.Native.Nat.{_<_};
 ghost use lib.Ieee.{binary64};
 ghost use lib.ListN.{length};
 ghost use Rattle.root.specs.Root.{sqrtOf};
-ghost use Rattle.section.specs.Outcome.{Gave, GaveLine, toldTolerance};
-ghost use Rattle.section.specs.Entries.{byDirection, byNormal, lineCut, planeCut, stitchAlone, toleranceOf};
+ghost use Rattle.entries.specs.Outcome.{Gave, GaveLine, toldTolerance};
+ghost use Rattle.entries.specs.Entries.{byDirection, byNormal, lineCut, planeCut, stitchAlone, toleranceOf};
 ghost use Rattle.section.specs.Claims.{Small};
 ghost use Rattle.section.specs.Code.{counted, meaning, toleranceMeaning};
-ghost use Rattle.line.specs.Code.{meaning as lineMeaning};
+ghost use Rattle.entries.specs.Code.{meaning as lineMeaning};
 ghost use Rattle.cicelybeam.specs.Exports.{toldIn, toldLineIn, toldToleranceIn};
 
 // struct cicelybeam_section: refusal 0, how many points, nodes and loops were written, and the four counts of edges; or the
@@ -106,7 +106,7 @@ pub extern "C" fn cicelybeam_plane_cell_by_normal(
         (length (now (numbers .entry))))
         (toldLineIn r) (now (numbers .entry)) (now (numbers .exit)) ⌝ }
 {
-    told_line(line::slice_2d(kind, conn, coords, origin, normal, tol, numbers))
+    told_line(plane_cell::slice_2d(kind, conn, coords, origin, normal, tol, numbers))
 }
 
 // A plane cell cut by a line that its direction gives.
@@ -125,7 +125,7 @@ pub extern "C" fn cicelybeam_plane_cell_by_direction(
         (length (now (numbers .entry))))
         (toldLineIn r) (now (numbers .entry)) (now (numbers .exit)) ⌝ }
 {
-    told_line(line::slice_line(kind, conn, coords, origin, direction, tol, numbers))
+    told_line(plane_cell::slice_line(kind, conn, coords, origin, direction, tol, numbers))
 }
 
 // Stitching alone.
@@ -208,16 +208,16 @@ fn counted(s: stitch::Stitched) -> Section
 }
 
 // A line section as a C struct.
-fn told_line(answer: line::Line) -> Line
+fn told_line(answer: entries::Line) -> Line
     requires { ⌜ lineMeaning answer .segments < 4294967296 ⌝ }
     ensures { λ r. ⌜ toldLineIn r ≡ lineMeaning answer ⌝ }
 {
     match answer {
-        line::Line::Refused(k) => Line {
+        entries::Line::Refused(k) => Line {
             refusal: k as u32,
             segments: 0,
         },
-        line::Line::Cut(n) => Line {
+        entries::Line::Cut(n) => Line {
             refusal: 0,
             segments: narrow(n),
         },

@@ -1,5 +1,3 @@
-pub mod Answers
-pub mod LineBy
 pub mod Reading
 pub mod Corners
 pub mod Carrying

@@ -16,7 +16,7 @@ use Rattle.clip.specs.Code.{Points, Segments}
 use Rattle.clip.proofs.Bound.{section-bound}
 use Rattle.stitch.specs.Walk.{pointAt}
 use Rattle.stitch.specs.Code.{cut}
-use Rattle.section.specs.Entries.{axis, loopSegments, loopsSegments, segmentOnLine}
+use Rattle.entries.specs.Entries.{axis, loopSegments, loopsSegments, segmentOnLine}
 use Rattle.line.specs.Code.{Loop, Loops, Rising, onLineOf}
 
 rising-most : (s : ℕ) (es : List ℕ) (m : ℕ) → Rising s es m → s ≤ m

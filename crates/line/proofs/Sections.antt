@@ -25,9 +25,9 @@ use Rattle.stitch.specs.Stitch.{Answer, stitched}
 use Rattle.stitch.specs.declared.Stitched.{Stitched}
 use Rattle.stitch.proofs.Claim.{claim}
 use Rattle.stitch.proofs.Welded.{cut-ends}
-use Rattle.section.specs.Entries.{lineOfSection, loopSegments, loopsSegments, sectionOf, segmentOnLine}
-use Rattle.section.specs.Code.{Roomy}
-use Rattle.section.proofs.Stitching.{corners-most, few-segments}
+use Rattle.entries.specs.Entries.{lineOfSection, loopSegments, loopsSegments, sectionOf, segmentOnLine}
+use Rattle.entries.specs.Code.{Roomy}
+use Rattle.entries.proofs.Stitching.{corners-most, few-segments}
 use Rattle.line.specs.Code.{Lent, Loops, Rising, onLineOf}
 use Rattle.line.specs.Claims.{LineBounded}
 use Rattle.line.proofs.LoopsCut.{loop-bound}

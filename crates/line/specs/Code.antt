@@ -1,32 +1,17 @@
--- What the clauses of the code cite. The entries themselves are `lineCut`, `byNormal` and `byDirection` in section/specs/Entries.antt.
--- Definitions only.
-use mathlib.Core.List.{List, [], _∷_, map, flatten}
+-- What the clauses of the code cite. The entry itself is `lineCut` in entries/specs/Entries.antt. Definitions only.
+use mathlib.Core.List.{List, [], _∷_, map}
 use Prim.Native.Nat.{ℕ, _*_, _≤_}
 use lib.Dec.{leb}
 use lib.ListN.{length}
 use lib.Ieee.{Float}
-use Rattle.vector.specs.Vector.{Vector, Direction, Frame, lineOf}
+use Rattle.vector.specs.Vector.{Vector, Frame, lineOf}
 use Rattle.vector.specs.Rows.{Seg}
-use Rattle.cell.specs.Read.{Polygon, planeCell, spaceMost}
-use Rattle.clip.specs.Clip.{Cut, planeSectionSegments}
+use Rattle.cell.specs.Read.{Polygon, spaceMost}
 use Rattle.clip.specs.Cell.{atMost}
-use Rattle.clip.specs.View.{cut2}
 use Rattle.stitch.specs.Code.{Below, cut}
-use Rattle.section.specs.Outcome.{Outcome, refused, found, andThen, unless, ToldLine}
-use Rattle.section.specs.Entries.{frameIn, lineOfSection, loopsSegments, normalIn, placedBy, polygonSegments, polygonsOf}
-use Rattle.section.specs.Entries.{sectionOf, segmentOnLine}
-use Rattle.section.specs.Code.{Faces, Scratch}
-use Rattle.line.specs.declared.Line as L
-use Rattle.line.specs.declared.Line.the-variants as l
-use Rattle.line.specs.declared.Cutting as C
-use Rattle.line.specs.declared.Cutting.the-variants as c
-
--- document 01's number and values for each case of an answer
-abbrev pub meaning : L.Line → ToldLine
-meaning (l.Refused k) = record { refusal = k; segments = 0 }
-meaning (l.Cut n) = record { refusal = 0; segments = n }
-
--- ---- a cell in space
+use Rattle.entries.specs.Outcome.{Outcome, found, andThen, unless}
+use Rattle.entries.specs.Entries.{frameIn, lineOfSection, loopsSegments, placedBy, sectionOf, segmentOnLine}
+use Rattle.entries.specs.Code.{Faces, Scratch}
 
 -- 7, or the line cut of polygons with m corners; a is the length of the buffer
 abbrev pub lineIn : Float → ℕ → ℕ → List Polygon → Frame → Outcome (List Seg)
@@ -70,25 +55,3 @@ pub record Loops (p : ℕ) (points : List Float) (nodes ends : List ℕ) (polygo
   pub each : Loop p points nodes polygon clipped flat
   pub rising : Rising 0 ends (length nodes)
   pub for-numbers : 6 * atMost (length nodes) ≤ length numbers
-
--- ---- a cell in the plane
-
--- the line that cuts, or why there is none
-abbrev pub cutting : C.Cutting → Outcome Cut
-cutting (c.Refused k) = refused k
-cutting (c.By x) = found (cut2 x)
-
--- the line through o whose unit normal `normal` gives for n, or refusal 5 or 6
-abbrev pub lineBy : (List Float → Direction) → List Float → List Float → Float → Outcome Cut
-lineBy normal o n tol =
-    andThen (placedBy 2 o n (normalIn (normal n))) (λ u. found (record { origin = o; normal = u; tol = tol }))
-
--- 7, or the segments of a polygon of n corners; a is the length of the buffer
-abbrev pub segmentsIn : ℕ → ℕ → List Vector → Cut → Outcome (List Seg)
-segmentsIn n a p l = unless 7 (leb (6 * n) a) (found (planeSectionSegments l p))
-
--- the cut of a cell by a line that is placed already
-abbrev pub cellCut : Outcome Cut → ℕ → List ℕ → List Float → ℕ → Outcome (List Seg)
-cellCut o t c xs a =
-    andThen (polygonsOf (planeCell t c xs)) (λ ps.
-    andThen o (λ l. unless 7 (leb (6 * length (flatten ps)) a) (found (polygonSegments l ps))))

@@ -2,7 +2,7 @@
 ghost use Prim.Native.Nat.{_+_, _≤_, min};
 ghost use lib.ListN.{length};
 ghost use Rattle.replay_sections.specs.Code.{InOrder, Whole};
-use line::Line;
+use entries::Line;
 use section::Section;
 use section::Tolerance;
 use stitch::Stitched;
@@ -106,8 +106,8 @@ fn enter(
             ends,
         )),
         2 => told_line(line::slice_line_3d(t, conn, xs, origin, vector, tol, numbers)),
-        3 => told_line(line::slice_2d(t, conn, xs, origin, vector, tol, numbers)),
-        4 => told_line(line::slice_line(t, conn, xs, origin, vector, tol, numbers)),
+        3 => told_line(plane_cell::slice_2d(t, conn, xs, origin, vector, tol, numbers)),
+        4 => told_line(plane_cell::slice_line(t, conn, xs, origin, vector, tol, numbers)),
         5 => told(section::stitch_alone(segments, tol, numbers, nodes, ends)),
         6 => told_tolerance(section::tolerance_in_space(xs)),
         _ => told_tolerance(section::tolerance_in_plane(xs)),

@@ -1,18 +1,18 @@
--- The theorems about the entries. Assumes nothing.
-use mathlib.Core.Path.{_≡_, refl, sym, ap, _∙_, subst}
-use mathlib.Core.List.{List, [], _∷_, flatten}
-use mathlib.Core.Bool.{Bool, true, false, _&&_}
+-- The theorems about the plane cut and stitching alone. Assumes nothing.
+use mathlib.Core.Path.{_≡_, sym, ap, _∙_, subst}
+use mathlib.Core.List.{List, flatten}
+use mathlib.Core.Bool.{_&&_}
 use Prim.Native.Nat.{ℕ, _*_, _/_, _%_, _≤_}
 use native.Mathlib.Omega.{arith}
 use lib.Dec.{T, eqb, eqb→eq, leb, leb→le}
 use lib.Ieee.{Float, binary64, mul}
 use lib.Ieee.Fits.{and-l, and-r}
-use lib.ListN.{length, length-append}
-use Rattle.vector.specs.Vector.{Direction, Frame, Framed, framed, unframed, lineOf, normalAlong, planeOf, unit}
+use lib.ListN.{length}
+use Rattle.vector.specs.Vector.{Frame, framed, lineOf, planeOf}
 use Rattle.vector.specs.Rows.{Seg, segs}
 use Rattle.vector.proofs.Rows.{segs-length}
-use Rattle.cell.specs.Types.{allow, planeType, shapeOf, spaceType}
-use Rattle.cell.specs.Read.{Kind, none, kind, Polygon, areRows, inOrder, planeCell, planeKind, polygons, read, readAs, spaceCell, spaceKind}
+use Rattle.cell.specs.Types.{shapeOf, spaceType}
+use Rattle.cell.specs.Read.{Polygon, read, spaceCell, spaceKind}
 use Rattle.cell.specs.Claims.{CornersKept}
 use Rattle.cell.specs.declared.Shape.{Shape}
 use Rattle.cell.specs.declared.Shape.the-variants.{Tet, Wedge, Hex, Phed}
@@ -26,19 +26,14 @@ use Rattle.stitch.specs.Stitch.{Answer, stitched}
 use Rattle.stitch.specs.Claim.{Claim}
 use Rattle.stitch.proofs.Claim.{claim, counts-listed}
 use Rattle.stitch.proofs.Welded.{read-back}
-use Rattle.section.specs.Outcome.{Outcome, refused, found, andThen, unless, room, Told, told, toldSection, Gave}
-use Rattle.section.specs.Entries.{polygonsOf, placedBy, frameIn, normalIn, sectionIn, sectionOf, cutPolygons, planeCut}
-use Rattle.section.specs.Entries.{lineOfSection}
-use Rattle.section.specs.Entries.{polygonSegments, planeCellCut, stitchAlone}
-use Rattle.section.specs.Claims.{AlikeInPlane, AlikeInSpace, PlaneClaim, PlaneSection, PlaneSound, SectionsSmall, SegmentsBounded}
-use Rattle.section.specs.Claims.{Small, Sound, StitchClaim, StitchSection, StitchSound, answerIn, mostSegments}
-use Rattle.section.proofs.Seam.{corners-most}
-use Rattle.section.proofs.Reading.{most-256}
-
-pub corners-in-all : (ps : List Polygon) → corners ps ≡ length (flatten ps)
-unfolding flatten
-corners-in-all [] = refl
-corners-in-all (p ∷ ps) = omega (arith, corners-in-all ps, length-append p (flatten ps))
+use Rattle.entries.specs.Outcome.{Outcome, refused, found, andThen, unless, room, Told, told, toldSection, Gave}
+use Rattle.entries.specs.Entries.{polygonsOf, placedBy, frameIn, sectionIn, sectionOf, cutPolygons, planeCut, lineOfSection, stitchAlone}
+use Rattle.entries.specs.Claims.{Sound}
+use Rattle.entries.proofs.Claims.{corners-in-all, sound-frame, sound-reading, sound-then, sound-unless}
+use Rattle.entries.proofs.Reading.{most-256}
+use Rattle.entries.proofs.Seam.{corners-most}
+use Rattle.section.specs.Claims.{AlikeInSpace, PlaneClaim, PlaneSection, PlaneSound, SectionsSmall, SegmentsBounded}
+use Rattle.section.specs.Claims.{Small, StitchClaim, StitchSection, StitchSound, answerIn, mostSegments}
 
 within : (s : Shape) (m : ℕ) → CornersKept s m → atMost m ≤ mostSegments s
 within Tet m e = omega (arith, e)
@@ -62,48 +57,7 @@ alike-in-space t c c′ xs xs′ ps ps′ r r′ z o n tol a b d =
           unless 7 (leb (14 * length (flatten ps)) a) (found (lineOfSection f tol (sectionOf f tol ps)))))) e,
     )
 
-pub alike-in-plane : AlikeInPlane
-alike-in-plane t c c′ xs xs′ ps ps′ r r′ z o n tol a =
-    let e : planeCell t c xs ≡ planeCell t c′ xs′ = alike 2 (planeKind (planeType t)) c c′ xs xs′ ps ps′ r r′ z in
-    (by unit e, by normalAlong e)
-  where
-    by : (normal : List Float → Direction) → planeCell t c xs ≡ planeCell t c′ xs′
-        → planeCellCut normal t c xs o n tol a ≡ planeCellCut normal t c′ xs′ o n tol a
-    by normal e =
-        ap (λ k. andThen (polygonsOf k) (λ ps. andThen (placedBy 2 o n (normalIn (normal n))) (λ u.
-        unless 7 (leb (6 * length (flatten ps)) a) (found (polygonSegments (record { origin = o; normal = u; tol = tol }) ps))))) e
-
 -- ---- what an entry can answer
-
-module _ (lo hi : ℕ) where
-  pub sound-then : {A B : Type 0} (P : A → Type 0) (Q : B → Type 0) (o : Outcome A) (next : A → Outcome B) → Sound lo hi P o
-      → ((a : A) → P a → Sound lo hi Q (next a)) → Sound lo hi Q (andThen o next)
-  sound-then P Q (refused k) next h f = h
-  sound-then P Q (found a) next h f = f a h
-
-  pub sound-unless : {A : Type 0} (P : A → Type 0) (k : ℕ) (t : Bool) (o : Outcome A) → lo ≤ k → k ≤ hi → (t ≡ true → Sound lo hi P o)
-      → Sound lo hi P (unless k t o)
-  sound-unless P k true o l h f = f refl
-  sound-unless P k false o l h f = (l, h)
-
--- 1 to 4
-pub sound-reading : (w : ℕ) (k : Kind) (c : List ℕ) (xs : List Float) → Sound 1 7 (λ ps. readAs w k c xs ≡ read ps) (polygonsOf (readAs w k
-    c xs))
-unfolding readAs
-sound-reading w none c xs = (omega arith, omega arith)
-sound-reading w (kind n faces) c xs =
-    by-test (allow n (length c)) (eqb (length xs % w) 0) (areRows c (length xs / w) (flatten (faces c))) (polygons w c xs (faces c))
-  where
-    by-test : (x y z : Bool) (ps : List Polygon) → Sound 1 7 (λ qs. inOrder x y z ps ≡ read qs) (polygonsOf (inOrder x y z ps))
-    by-test true true true ps = refl
-    by-test true true false ps = (omega arith, omega arith)
-    by-test true false z ps = (omega arith, omega arith)
-    by-test false y z ps = (omega arith, omega arith)
-
--- 6
-pub sound-frame : (x : Framed) → Sound 1 7 (λ f. x ≡ framed f) (frameIn x)
-sound-frame (framed f) = refl
-sound-frame unframed = (omega arith, omega arith)
 
 few-of-cell : (t : ℕ) (c : List ℕ) (xs : List Float) (ps : List Polygon) → spaceCell t c xs ≡ read ps → (f : Frame) (tol : Float)
     → length (cellSegments (cutBy f tol) f ps) ≤ 384

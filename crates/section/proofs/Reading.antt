@@ -1,128 +1,30 @@
--- What a reading told, and that its faces are ready to be cut. Assumes nothing.
-use mathlib.Core.Path.{_≡_, refl, sym, ap, _∙_, subst}
+-- The plane cut of a cell, by the answer to its reading. Assumes nothing.
+use mathlib.Core.Path.{_≡_, sym, ap, _∙_}
 use mathlib.Core.List.{List, flatten}
-use mathlib.Core.Bool.{Bool, true, false, cond}
-use Prim.Native.Nat.{ℕ, _+_, _≤_}
-use native.Mathlib.Omega.{arith}
-use borrow.Author.Tests.{ne-eqb}
-use lib.Dec.{eqb}
+use Prim.Native.Nat.{ℕ}
 use lib.Ieee.{Float}
-use lib.ListN.{length, take, drop, length-append}
-use Rattle.vector.specs.Rows.{endsFrom, over}
-use Rattle.cell.specs.Read.{Polygon, Read, refused, read, refusal, counts, meaning, told, coordsOf, endsOf, spaceCell, spaceMost, Faced}
+use lib.ListN.{length, take}
+use Rattle.cell.specs.Read.{refused, spaceCell, Faced}
 use Rattle.cell.specs.declared.Reading.{Reading}
-use Rattle.cell.specs.declared.Reading.the-variants.{Refused, Cell}
-use Rattle.cell.proofs.Lists.{length-ends}
+use Rattle.cell.specs.declared.Reading.the-variants.{Cell}
 use Rattle.clip.specs.Cell.{facesOf}
-use Rattle.clip.specs.Code.{Fit}
-use Rattle.section.specs.Outcome.{andThen, refused as no}
-use Rattle.section.specs.Entries.{polygonsOf, cutPolygons, planeCut}
-use Rattle.section.specs.Code.{Faces, Scratch, faceMost}
-use Rattle.section.proofs.Seam.{corners-most, face-most, seam-fit, seam-taken}
-
--- a cell that was read: its polygons, and what the answer says of them
-pub record IsCell (o : Read) (m f : ℕ) : Type 0 where
-  pub polygons : List Polygon
-  pub is : o ≡ read polygons
-  pub corners : m ≡ length (flatten polygons)
-  pub faces : f ≡ length polygons
-
--- which of the two an answer tells
-refused-only : (o : Read) (k : ℕ) → refusal k ≡ told o → o ≡ refused k
-refused-only (refused j) k e = let z : k ≡ j = cc in ap refused (sym z)
-refused-only (read ps) k e = let z : _≡_ {A = ℕ} 0 1 = cc in absurd (omega arith)
-
-cell-only : (o : Read) (m f : ℕ) → counts m f ≡ told o → IsCell o m f
-cell-only (refused j) m f e = let z : _≡_ {A = ℕ} 0 1 = cc in absurd (omega arith)
-cell-only (read ps) m f e = record { polygons = ps; is = refl; corners = cc; faces = cc }
-
-module _ {o : Read} {r : Reading} {out out′ : List Float} {ends ends′ : List ℕ} (h : Faced o r out out′ ends ends′) where
-  pub was-refused : {k : ℕ} → r ≡ Refused k → o ≡ refused k
-  was-refused {k} e = refused-only o k (ap meaning (sym e) ∙ h .gave .answer)
-
-  pub was-cell : {m f : ℕ} → r ≡ Cell m f → IsCell o m f
-  was-cell {m} {f} e = cell-only o m f (ap meaning (sym e) ∙ h .gave .answer)
-
-pub most-256 : (t : ℕ) → spaceMost t ≤ 256
-most-256 t = either (eqb t 18)
-  where
-    either : (b : Bool) → cond b 256 24 ≤ 256
-    either true = omega arith
-    either false = omega arith
-
--- every type but PHED needs the room of TET4's tier
-pub fixed-scratch : {t : ℕ} {stops : List ℕ} {coords points space segments : List Float} → (t ≡ 18 → ⊥)
-    → Scratch 12 stops coords points space segments → Scratch t stops coords points space segments
-fixed-scratch {t} {stops} {coords} {points} {space} {segments} h s = record {
-  for-ends = rw e (s .for-ends);
-  for-corners = rw e (s .for-corners);
-  for-points = rw e (s .for-points);
-  for-space = rw e (s .for-space);
-  for-segments = rw e (s .for-segments);
-}
-  where
-    e : eqb t 18 ≡ false
-    e = ne-eqb t 18 h
-
--- what was written, as its reader takes it
-module _ (t : ℕ) (c : List ℕ) (xs : List Float) {r : Reading} {coords coords′ : List Float} {stops stops′ : List ℕ}
-    (h : Faced (spaceCell t c xs) r coords coords′ stops stops′) {m f : ℕ} (e : r ≡ Cell m f) where
-  pub cell : IsCell (spaceCell t c xs) m f
-  cell = was-cell h e
-
-  ends-are : stops′ ≡ over (endsFrom 0 (cell .polygons)) stops
-  ends-are = subst (λ o. stops′ ≡ over (endsOf o) stops) (cell .is) (h .places)
-
-  coords-are : coords′ ≡ over (flatten (flatten (cell .polygons))) coords
-  coords-are = subst (λ o. coords′ ≡ over (coordsOf o) coords) (cell .is) (h .gave .coords)
-
-  pub faces-are : facesOf 3 (take f stops′) coords′ ≡ cell .polygons
-  faces-are =
-      let ps = cell .polygons in
-      ap (λ k. facesOf 3 (take k stops′) coords′) (cell .faces)
-      ∙ ap (λ l. facesOf 3 (take (length ps) l) coords′) ends-are
-      ∙ ap (λ l. facesOf 3 (take (length ps) (over (endsFrom 0 ps) stops)) l) coords-are
-      ∙ seam-taken t c xs ps (cell .is) coords stops
-
-  pub faces-few : f ≤ length stops′
-  faces-few =
-      let es = endsFrom 0 (cell .polygons) in
-      let l : length stops′ ≡ length es + length (drop (length es) stops) = ap length ends-are ∙ length-append es (drop (length es) stops)
-      in
-      omega (arith, cell .faces, length-ends 0 (cell .polygons))
-
-  pub ready : {points space segments : List Float} → Scratch t stops coords points space segments → length coords′ ≡ length coords
-      → Faces m (take f stops′) coords′ points space segments
-  ready {points} {space} h l =
-      let ps = cell .polygons in
-      let n : length (flatten ps) ≤ spaceMost t = corners-most t c xs ps (cell .is) in
-      let e : take f stops′ ≡ take (length ps) (over (endsFrom 0 ps) stops) = ap (λ k. take k stops′) (cell .faces) ∙ ap (take (length ps))
-      ends-are in
-      let k = cell .corners in
-      let b = most-256 t in
-      let x = h .for-corners in
-      let z = h .for-segments in
-      record {
-        few = omega arith;
-        fit =
-            subst (λ i. Fit 0 (take f stops′) i (length points) (length space)) (sym k)
-            (subst (λ l. Fit 0 l (length (flatten ps)) (length points) (length space)) (sym e)
-            (seam-fit (faceMost t) (length points) (length space) ps stops (face-most t c xs ps (cell .is)) (h .for-points) (h
-            .for-space)));
-        for-corners = omega arith;
-        for-segments = omega arith;
-      }
-
-  -- so the plane cut of the cell is that of the faces that were written
-  pub cut-of-faces : (o n : List Float) (tol : Float) (x y z : ℕ)
-      → planeCut t c xs o n tol x y z ≡ cutPolygons o n tol m x y z (facesOf 3 (take f stops′) coords′)
-  cut-of-faces o n tol x y z =
-      ap (λ k. andThen (polygonsOf k) (λ ps. cutPolygons o n tol (length (flatten ps)) x y z ps)) (cell .is)
-      ∙ ap (λ k. cutPolygons o n tol k x y z (cell .polygons)) (sym (cell .corners))
-      ∙ ap (λ ps. cutPolygons o n tol m x y z ps) (sym faces-are)
+use Rattle.entries.specs.Outcome.{andThen, refused as no}
+use Rattle.entries.specs.Entries.{polygonsOf, cutPolygons, planeCut}
+use Rattle.entries.proofs.Reading as R
 
 -- the plane cut of a cell that was refused
 pub cut-refused : {k : ℕ} (t : ℕ) (c : List ℕ) (xs o n : List Float) (tol : Float) (x y z : ℕ) → spaceCell t c xs ≡ refused k
     → planeCut t c xs o n tol x y z ≡ no k
 cut-refused t c xs o n tol x y z e =
     ap (λ k. andThen (polygonsOf k) (λ ps. cutPolygons o n tol (length (flatten ps)) x y z ps)) e
+
+module _ (t : ℕ) (c : List ℕ) (xs : List Float) {r : Reading} {coords coords′ : List Float} {stops stops′ : List ℕ}
+    (h : Faced (spaceCell t c xs) r coords coords′ stops stops′) {m f : ℕ} (e : r ≡ Cell m f) where
+  -- the plane cut of a cell that was read is that of the faces that were written
+  pub cut-of-faces : (o n : List Float) (tol : Float) (x y z : ℕ)
+      → planeCut t c xs o n tol x y z ≡ cutPolygons o n tol m x y z (facesOf 3 (take f stops′) coords′)
+  cut-of-faces o n tol x y z =
+      let p = R.cell t c xs h e in
+      ap (λ k. andThen (polygonsOf k) (λ ps. cutPolygons o n tol (length (flatten ps)) x y z ps)) (p .is)
+      ∙ ap (λ k. cutPolygons o n tol k x y z (p .polygons)) (sym (p .corners))
+      ∙ ap (λ ps. cutPolygons o n tol m x y z ps) (sym (R.faces-are t c xs h e))

@@ -7,8 +7,8 @@ use lib.Ieee.{Float, binary64, mul}
 use lib.ListN.{length, take}
 use Rattle.vector.specs.Vector.{Frame, framed, planeOf}
 use Rattle.vector.specs.Rows.{rows, segs}
-use Rattle.cell.specs.Types.{planeType, shapeOf, spaceType}
-use Rattle.cell.specs.Read.{Kind, Polygon, planeCell, planeKind, read, spaceCell, spaceKind}
+use Rattle.cell.specs.Types.{shapeOf, spaceType}
+use Rattle.cell.specs.Read.{Kind, Polygon, read, spaceCell, spaceKind}
 use Rattle.cell.specs.Claims.{SameCorners, facesAs}
 use Rattle.cell.specs.declared.Shape.{Shape}
 use Rattle.cell.specs.declared.Shape.the-variants.{Tet, Wedge, Hex, Phed}
@@ -18,8 +18,9 @@ use Rattle.clip.specs.Cell.{cellSegments, cutBy}
 use Rattle.stitch.specs.Stitch.{Answer}
 use Rattle.stitch.specs.Code.{cut}
 use Rattle.stitch.specs.Claim.{Claim}
-use Rattle.section.specs.Outcome.{Outcome, refused, found, Told, told, Gave}
-use Rattle.section.specs.Entries.{planeCut, lineCut, byNormal, byDirection, stitchAlone}
+use Rattle.entries.specs.Outcome.{Told, told, Gave}
+use Rattle.entries.specs.Entries.{planeCut, lineCut, stitchAlone}
+use Rattle.entries.specs.Claims.{Sound}
 
 -- ---- how many segments
 
@@ -44,12 +45,6 @@ SameInSpace t c c′ xs xs′ =
     let k : Kind = spaceKind (spaceType t) in
     SameCorners 3 (facesAs k c) (facesAs k c′) c c′ xs xs′
 
--- the same in the plane
-abbrev pub SameInPlane : ℕ → List ℕ → List ℕ → List Float → List Float → Type 0
-SameInPlane t c c′ xs xs′ =
-    let k : Kind = planeKind (planeType t) in
-    SameCorners 2 (facesAs k c) (facesAs k c′) c c′ xs xs′
-
 -- Two accepted cells in space with equal type and the same corner coordinates, face by face, are cut alike by the same plane or line with
 -- the same tolerance, whatever their mid-side nodes hold.
 abbrev pub AlikeInSpace : Type 0
@@ -57,20 +52,6 @@ AlikeInSpace =
     (t : ℕ) (c c′ : List ℕ) (xs xs′ : List Float) (ps ps′ : List Polygon) → spaceCell t c xs ≡ read ps → spaceCell t c′ xs′ ≡ read ps′
     → SameInSpace t c c′ xs xs′ → (o n : List Float) (tol : Float) (a b d : ℕ)
     → (planeCut t c xs o n tol a b d ≡ planeCut t c′ xs′ o n tol a b d) × (lineCut t c xs o n tol a ≡ lineCut t c′ xs′ o n tol a)
-
--- The same for two cells in the plane and a line, by its normal or by its direction.
-abbrev pub AlikeInPlane : Type 0
-AlikeInPlane =
-    (t : ℕ) (c c′ : List ℕ) (xs xs′ : List Float) (ps ps′ : List Polygon) → planeCell t c xs ≡ read ps → planeCell t c′ xs′ ≡ read ps′
-    → SameInPlane t c c′ xs xs′ → (o n : List Float) (tol : Float) (a : ℕ)
-    → (byNormal t c xs o n tol a ≡ byNormal t c′ xs′ o n tol a) × (byDirection t c xs o n tol a ≡ byDirection t c′ xs′ o n tol a)
-
--- ---- what an entry can answer
-
--- a refusal with one of the numbers from lo to hi, or an answer of which P holds
-abbrev pub Sound : {A : Type 0} → ℕ → ℕ → (A → Type 0) → Outcome A → Type 0
-Sound lo hi P (refused k) = (lo ≤ k) × (k ≤ hi)
-Sound lo hi P (found a) = P a
 
 -- ---- the claim about stitching, of what an entry gave
 

@@ -1,22 +1,10 @@
--- What the clauses of the code cite. Definitions only.
-use mathlib.Core.List.{List}
-use mathlib.Core.Bool.{cond}
-use Prim.Native.Nat.{ℕ, _*_, _/_, _≤_}
-use lib.Dec.{eqb}
-use lib.ListN.{length}
-use lib.Ieee.{Float}
+-- What the clauses of the code cite. The entries themselves are `planeCut`, `stitchAlone` and `toleranceOf` in
+-- entries/specs/Entries.antt. Definitions only.
 use Rattle.vector.specs.Number.{f0}
-use Rattle.vector.specs.View.{frameOf}
-use Rattle.vector.specs.Vector.{Frame}
-use Rattle.cell.specs.Read.{spaceMost, facesMost}
-use Rattle.clip.specs.Cell.{atMost}
-use Rattle.clip.specs.Code.{Fit}
 use Rattle.stitch.specs.declared.Stitched.{Stitched}
-use Rattle.section.specs.Outcome.{Outcome, refused, found, Told, toldRefused, ToldTolerance}
+use Rattle.entries.specs.Outcome.{Told, toldRefused, ToldTolerance}
 use Rattle.section.specs.declared.Section as S
 use Rattle.section.specs.declared.Section.the-variants as s
-use Rattle.section.specs.declared.Placing as P
-use Rattle.section.specs.declared.Placing.the-variants as p
 use Rattle.section.specs.declared.Tolerance as T
 use Rattle.section.specs.declared.Tolerance.the-variants as t
 
@@ -43,36 +31,3 @@ meaning (s.Cut r) = counted r
 abbrev pub toleranceMeaning : T.Tolerance → ToldTolerance
 toleranceMeaning (t.Refused k) = record { refusal = k; value = f0 }
 toleranceMeaning (t.Of x) = record { refusal = 0; value = x }
-
--- the plane that a placing found
-abbrev pub placing : P.Placing → Outcome Frame
-placing (p.Refused k) = refused k
-placing (p.On f) = found (frameOf f)
-
--- ---- what the parts of a cut need
-
--- m corners of faces whose ends are running totals, with room for what is worked out of them: the corners, the clipped points and the
--- segments of a face, and the segments of the cell
-pub record Faces (m : ℕ) (stops : List ℕ) (coords points space segments : List Float) : Type 0 where
-  pub few : m ≤ 256
-  pub fit : Fit 0 stops m (length points) (length space)
-  pub for-corners : 3 * m ≤ length coords
-  pub for-segments : 4 * atMost m ≤ length segments
-
--- buffers that hold the section of m corners
-pub record Roomy (m : ℕ) (numbers : List Float) (nodes ends : List ℕ) : Type 0 where
-  pub for-numbers : 6 * m ≤ length numbers
-  pub for-nodes : 3 * m / 2 ≤ length nodes
-  pub for-ends : m / 2 ≤ length ends
-
--- the most corners of a face that a type number's cells have
-abbrev pub faceMost : ℕ → ℕ
-faceMost t = cond (eqb t 18) 256 4
-
--- room for a cell of type number t, and for one of its faces
-pub record Scratch (t : ℕ) (stops : List ℕ) (coords points space segments : List Float) : Type 0 where
-  pub for-ends : facesMost t ≤ length stops
-  pub for-corners : 3 * spaceMost t ≤ length coords
-  pub for-points : 3 * atMost (faceMost t) ≤ length points
-  pub for-space : 6 * atMost (faceMost t) ≤ length space
-  pub for-segments : 4 * atMost (spaceMost t) ≤ length segments

@@ -1,5 +1,3 @@
-pub mod Outcome
-pub mod Entries
 pub mod Code
 pub mod Claims
 pub mod Table

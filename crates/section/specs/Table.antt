@@ -20,8 +20,8 @@ use Rattle.clip.specs.Clip.{planeSectionSegments}
 use Rattle.weld.specs.Weld.{becomes, edgesFrom, listedEdges, pointsFrom, weldedPoints}
 use Rattle.stitch.specs.Walk.{walks, walksFrom}
 use Rattle.stitch.specs.Stitch.{Answer, f2, signedArea, stitchedWithin}
-use Rattle.section.specs.Outcome.{Outcome, refused, found}
-use Rattle.section.specs.Entries.{planeCut, stitchAlone, toleranceOf}
+use Rattle.entries.specs.Outcome.{Outcome, refused, found}
+use Rattle.entries.specs.Entries.{planeCut, stitchAlone, toleranceOf}
 
 -- ---- what is asked, and how it is answered
 

@@ -5,13 +5,13 @@ ghost use lib.ListN.{length, take};
 ghost use Rattle.vector.specs.Vector.{planeOf};
 ghost use Rattle.vector.specs.View.{frameOf};
 ghost use Rattle.clip.specs.Cell.{facesOf};
-ghost use Rattle.stitch.specs.Code.{Gave as Answered};
-ghost use Rattle.section.specs.Outcome.{Gave, room, toldTolerance};
-ghost use Rattle.section.specs.Entries.{cutPolygons, frameIn, placedBy, planeCut, sectionIn, sectionOf};
-ghost use Rattle.section.specs.Entries.{stitchAlone, toleranceOf};
-ghost use Rattle.section.specs.Code.{Faces, Roomy, Scratch, meaning, placing, toleranceMeaning};
+ghost use Rattle.entries.specs.Outcome.{Gave, room, toldTolerance};
+ghost use Rattle.entries.specs.Entries.{cutPolygons, frameIn, placedBy, planeCut, sectionIn, stitchAlone, toleranceOf};
+ghost use Rattle.entries.specs.Code.{Faces, Scratch, placing};
+ghost use Rattle.section.specs.Code.{meaning, toleranceMeaning};
 use cell::Reading;
 use cell::SpaceType;
+use entries::Placing;
 use stitch::Stitched;
 use vector::Placed;
 use vector::Plane;
@@ -299,7 +299,7 @@ fn section_on(
     ) {
         return Section::Refused(7);
     }
-    Section::Cut(stitch_faces(
+    Section::Cut(entries::stitch_faces(
         plane,
         tol,
         m,
@@ -314,30 +314,6 @@ fn section_on(
     ))
 }
 
-// The section by a plane of faces with m corners: their segments, stitched.
-pub fn stitch_faces(
-    plane: Plane,
-    tol: f64,
-    m: usize,
-    coords: &[f64],
-    stops: &[usize],
-    points: &mut [f64],
-    space: &mut [f64],
-    segments: &mut [f64],
-    numbers: &mut [f64],
-    nodes: &mut [u32],
-    ends: &mut [u32],
-) -> Stitched
-    requires { ⌜ Faces m (now stops) (now coords) (now points) (now space) (now segments)
-        × Roomy m (now numbers) (now nodes) (now ends) ⌝ }
-    ensures { λ r. ⌜ Answered (sectionOf (frameOf plane) tol (facesOf 3 (now (stops .entry)) (now (coords .entry)))) r
-        (now (numbers .entry)) (now (numbers .exit)) (now (nodes .entry)) (now (nodes .exit)) (now (ends .entry))
-        (now (ends .exit)) ⌝ }
-{
-    let s = clip::space::cell_segments(coords, stops, m, plane, tol, points, space, segments);
-    stitch::stitch_segments(segments, s, tol, numbers, nodes, ends)
-}
-
 // Whether buffers of lengths a, b and d hold x numbers, y nodes and z ends.
 fn room(x: usize, y: usize, z: usize, a: usize, b: usize, d: usize) -> bool
     ensures { λ r. ⌜ r ≡ room x y z a b d ⌝ }
@@ -348,12 +324,6 @@ fn room(x: usize, y: usize, z: usize, a: usize, b: usize, d: usize) -> bool
         }
     }
     false
-}
-
-// The number of a refusal, or the plane that cuts.
-pub enum Placing {
-    Refused(u8),
-    On(Plane),
 }
 
 // The plane through origin with this normal, or refusal 5 or 6.

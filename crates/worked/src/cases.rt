@@ -114,7 +114,7 @@ fn by_normal_in(
     normal: &[f64],
     numbers: &mut [f64],
 ) {
-    let l = line::slice_2d(t, conn, xs, origin, normal, 0.0, numbers);
+    let l = plane_cell::slice_2d(t, conn, xs, origin, normal, 0.0, numbers);
     show::line(l, numbers, 4);
 }
 
@@ -132,7 +132,7 @@ fn by_direction_in(
     direction: &[f64],
     numbers: &mut [f64],
 ) {
-    let l = line::slice_line(t, conn, xs, origin, direction, 0.0, numbers);
+    let l = plane_cell::slice_line(t, conn, xs, origin, direction, 0.0, numbers);
     show::line(l, numbers, 4);
 }
 

@@ -2,8 +2,8 @@
 ghost use Prim.Native.Nat.{_^_, _<_, _≤_};
 use crate::number;
 use cell::Reading;
+use entries::Line;
 use libc::STDOUT_FILENO;
-use line::Line;
 use section::Section;
 use section::Tolerance;
 use stitch::Stitched;

@@ -2,7 +2,7 @@
 use native.Mathlib.Omega.{arith}
 use lib.ListN.{length}
 use Rattle.vector.specs.Vector.{normalAlong}
-use Rattle.line.proofs.Claims.{plane-cell-sound}
+use Rattle.plane_cell.proofs.Claims.{plane-cell-sound}
 use Rattle.cicelybeam.proofs.Exports.{line-small, line-retold}
 use borrow.Author.Needs.{needs}
 use Rattle.cicelybeam.proofs.cicelybeam_plane_cell_by_direction.Statement.{statement}

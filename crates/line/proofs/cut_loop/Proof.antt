@@ -4,8 +4,8 @@ use mathlib.Core.List.{_++_, map}
 use native.Mathlib.Omega.{arith}
 use Rattle.vector.specs.Rows.{rows, segs}
 use Rattle.vector.specs.View.{frameOf}
-use Rattle.section.specs.Entries.{segmentOnLine}
-use Rattle.line.proofs.Answers.{segments-same}
+use Rattle.entries.specs.Entries.{segmentOnLine}
+use Rattle.entries.proofs.Answers.{segments-same}
 use Rattle.line.proofs.LoopsCut.{loop-few, loop-segments}
 use borrow.Author.Needs.{needs}
 use Rattle.line.proofs.cut_loop.Statement.{statement}

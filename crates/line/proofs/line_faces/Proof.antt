@@ -2,10 +2,10 @@
 use mathlib.Core.Path.{ap, sym, _∙_}
 use lib.ListN.{length}
 use Rattle.clip.specs.Cell.{facesOf}
-use Rattle.section.specs.Outcome.{andThen}
-use Rattle.section.specs.Code.{placing}
+use Rattle.entries.specs.Outcome.{andThen}
+use Rattle.entries.specs.Code.{placing}
 use Rattle.line.specs.Code.{lineIn}
-use Rattle.line.proofs.Answers.{gave-refusal, gave-same}
+use Rattle.entries.proofs.Answers.{gave-refusal, gave-same}
 use borrow.Author.Needs.{needs}
 use Rattle.line.proofs.line_faces.Statement.{statement}
 use Rattle.line.proofs.line_faces.Tie as tie

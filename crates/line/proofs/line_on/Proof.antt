@@ -4,8 +4,8 @@ use borrow.Author.Tests.{le-leb, lt-leb}
 use lib.ListN.{length}
 use Rattle.vector.specs.View.{frameOf}
 use Rattle.vector.proofs.Rows.{segs-length}
-use Rattle.section.proofs.Outcomes.{test-failed, test-passed}
-use Rattle.line.proofs.Answers.{gave-refusal, gave-segments}
+use Rattle.entries.proofs.Refusals.{test-failed, test-passed}
+use Rattle.entries.proofs.Answers.{gave-refusal, gave-segments}
 use Rattle.line.proofs.Sections.{line-fits}
 use borrow.Author.Needs.{needs}
 use Rattle.line.proofs.line_on.Statement.{statement}

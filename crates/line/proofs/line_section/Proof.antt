@@ -2,7 +2,7 @@
 use mathlib.Core.Path.{sym}
 use lib.Seq.{length-take-le}
 use Rattle.vector.specs.View.{frameOf}
-use Rattle.line.proofs.Answers.{segments-same}
+use Rattle.entries.proofs.Answers.{segments-same}
 use Rattle.line.proofs.Sections.{ends-there, line-of, loops-ready, nodes-there}
 use borrow.Author.Needs.{needs}
 use Rattle.line.proofs.line_section.Statement.{statement}

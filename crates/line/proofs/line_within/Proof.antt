@@ -3,8 +3,8 @@ use mathlib.Core.Path.{sym}
 use native.Mathlib.Omega.{arith}
 use lib.ListN.{length}
 use lib.Seq.{length-take-le}
-use Rattle.section.proofs.Reading.{faces-few, was-refused}
-use Rattle.line.proofs.Answers.{gave-refusal, gave-same}
+use Rattle.entries.proofs.Reading.{faces-few, was-refused}
+use Rattle.entries.proofs.Answers.{gave-refusal, gave-same}
 use Rattle.line.proofs.Reading.{line-ready, line-of-faces, line-refused, section-room}
 use borrow.Author.Needs.{needs}
 use Rattle.line.proofs.line_within.Statement.{statement}

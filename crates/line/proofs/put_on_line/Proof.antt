@@ -4,7 +4,7 @@ use mathlib.Core.Path.{_∙_, refl}
 use Prim.Native.Nat.{_-_}
 use native.Mathlib.Omega.{arith}
 use Rattle.vector.specs.View.{frameOf}
-use Rattle.section.specs.Entries.{segmentOnLine}
+use Rattle.entries.specs.Entries.{segmentOnLine}
 use Rattle.line.proofs.Carrying.{Carrying, carrying-end, carrying-start, carrying-step, on-line-ends}
 use Rattle.line.proofs.put_on_line.Statement.{statement}
 use Rattle.line.proofs.put_on_line.Tie as tie

@@ -1,8 +1,8 @@
 -- `slice_line_3d` meets its contract. Assumes nothing.
 use mathlib.Core.Path.{ap}
 use lib.ListN.{length}
-use Rattle.section.specs.Entries.{lineCut}
-use Rattle.line.proofs.Answers.{gave-same}
+use Rattle.entries.specs.Entries.{lineCut}
+use Rattle.entries.proofs.Answers.{gave-same}
 use borrow.Author.Needs.{needs}
 use Rattle.line.proofs.slice_line_3d.Statement.{statement}
 use Rattle.line.proofs.slice_line_3d.Tie as tie

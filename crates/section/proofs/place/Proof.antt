@@ -2,8 +2,8 @@
 use mathlib.Core.Path.{_∙_, ap, sym}
 use Rattle.vector.specs.View as view
 use Rattle.vector.specs.Vector.{planeOf}
-use Rattle.section.specs.Entries.{frameIn}
-use Rattle.section.proofs.Outcomes.{origin-long, vector-long, frame-made}
+use Rattle.entries.specs.Entries.{frameIn}
+use Rattle.entries.proofs.Refusals.{origin-long, vector-long, frame-made}
 use borrow.Author.Needs.{needs}
 use Rattle.section.proofs.place.Statement.{statement}
 use Rattle.section.proofs.place.Tie as tie

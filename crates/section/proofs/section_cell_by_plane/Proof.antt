@@ -1,7 +1,7 @@
 -- `section_cell_by_plane` meets its contract. Assumes nothing.
 use mathlib.Core.Path.{ap}
 use lib.ListN.{length}
-use Rattle.section.specs.Entries.{planeCut}
+use Rattle.entries.specs.Entries.{planeCut}
 use Rattle.section.proofs.Outcomes.{gave-same}
 use borrow.Author.Needs.{needs}
 use Rattle.section.proofs.section_cell_by_plane.Statement.{statement}

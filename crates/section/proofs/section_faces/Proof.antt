@@ -2,9 +2,9 @@
 use mathlib.Core.Path.{_∙_, ap, sym}
 use lib.ListN.{length}
 use Rattle.clip.specs.Cell.{facesOf}
-use Rattle.section.specs.Outcome.{andThen}
-use Rattle.section.specs.Entries.{sectionIn}
-use Rattle.section.specs.Code.{placing}
+use Rattle.entries.specs.Outcome.{andThen}
+use Rattle.entries.specs.Entries.{sectionIn}
+use Rattle.entries.specs.Code.{placing}
 use Rattle.section.proofs.Outcomes.{gave-refusal, gave-same}
 use borrow.Author.Needs.{needs}
 use Rattle.section.proofs.section_faces.Statement.{statement}

@@ -1,5 +1,5 @@
 -- `section_fixed` meets its contract. Assumes nothing.
-use Rattle.section.proofs.Reading.{fixed-scratch}
+use Rattle.entries.proofs.Reading.{fixed-scratch}
 use borrow.Author.Needs.{needs}
 use Rattle.section.proofs.section_fixed.Statement.{statement}
 use Rattle.section.proofs.section_fixed.Tie as tie

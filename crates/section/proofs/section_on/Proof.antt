@@ -1,7 +1,8 @@
 -- `section_on` meets its contract. Assumes nothing.
 use mathlib.Core.Path.{_∙_, sym}
 use borrow.Author.Tests.{not-true, not-false}
-use Rattle.section.proofs.Outcomes.{gave-refusal, gave-section, roomy, test-failed, test-passed}
+use Rattle.entries.proofs.Refusals.{test-failed, test-passed}
+use Rattle.section.proofs.Outcomes.{gave-refusal, gave-section, roomy}
 use borrow.Author.Needs.{needs}
 use Rattle.section.proofs.section_on.Statement.{statement}
 use Rattle.section.proofs.section_on.Tie as tie

@@ -3,7 +3,8 @@ use mathlib.Core.Path.{sym}
 use native.Mathlib.Omega.{arith}
 use lib.Seq.{length-take-le}
 use Rattle.section.proofs.Outcomes.{gave-refusal, gave-same}
-use Rattle.section.proofs.Reading.{cut-of-faces, cut-refused, faces-few, ready, was-refused}
+use Rattle.entries.proofs.Reading.{faces-few, ready, was-refused}
+use Rattle.section.proofs.Reading.{cut-of-faces, cut-refused}
 use borrow.Author.Needs.{needs}
 use Rattle.section.proofs.section_within.Statement.{statement}
 use Rattle.section.proofs.section_within.Tie as tie

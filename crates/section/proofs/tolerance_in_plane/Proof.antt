@@ -1,6 +1,6 @@
 -- `tolerance_in_plane` meets its contract. Assumes nothing.
 use mathlib.Core.Path.{ap, sym}
-use Rattle.section.specs.Outcome.{toldTolerance}
+use Rattle.entries.specs.Outcome.{toldTolerance}
 use Rattle.section.proofs.Outcomes.{not-rows, rows-fit}
 use borrow.Author.Needs.{needs}
 use Rattle.section.proofs.tolerance_in_plane.Statement.{statement}

@@ -1,0 +1,4 @@
+pub mod Outcome
+pub mod Entries
+pub mod Code
+pub mod Claims

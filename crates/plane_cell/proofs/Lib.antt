@@ -1,0 +1,4 @@
+pub mod LineBy
+pub mod Seam
+pub mod Reading
+pub mod Claims

@@ -1,0 +1,27 @@
+-- `slice_line` meets its contract. Assumes nothing.
+use lib.ListN.{length}
+use Rattle.vector.specs.Vector.{normalAlong}
+use Rattle.entries.proofs.Answers.{gave-same}
+use Rattle.plane_cell.proofs.LineBy.{placed-first}
+use borrow.Author.Needs.{needs}
+use Rattle.plane_cell.proofs.slice_line.Statement.{statement}
+use Rattle.plane_cell.proofs.slice_line.Tie as tie
+
+by-direction-requires : tie.Need-by-direction-requires
+by-direction-requires c κs = search needs
+
+cut-cell-requires : tie.Need-cut-cell-requires
+cut-cell-requires c κs = search needs
+
+same-length : tie.Need-same-length
+same-length c = search needs
+
+returns : tie.Need-returns
+returns c =
+    let g = c .before .before .before .before .before .before .before .before .before .before .args in
+    gave-same
+    (placed-first normalAlong (g .t) (g .conn .now) (g .xs .now) (g .origin .now) (g .direction .now) (g .tol) (length (g .numbers .now)))
+    (rw (c .before .before .before .before .by-direction .ensures) at (c .before .before .cut-cell .ensures))
+
+pub slice-line-spec : {M : Type 1} → statement M
+slice-line-spec = tie.close (tie.spec by-direction-requires cut-cell-requires same-length returns)
