@@ -6,7 +6,7 @@ use Prim.Native.Nat.{ℕ, _/_, _%_}
 use borrow.Author.Tests.{eq-eqb, ne-eqb}
 use lib.Ieee.{Float}
 use lib.ListN.{length, length-map}
-use Rattle.vector.specs.Rows.{endsFrom, over}
+use Rattle.rows.specs.Rows.{endsFrom, over}
 use Rattle.cell.specs.Types.{allow}
 use Rattle.cell.specs.Faces.{Face}
 use Rattle.cell.specs.Read.{corner, areRows, polygons, Kind, none, kind, Read, refused, read, readAs, counts, endsOf, Gave, Faced}

@@ -8,7 +8,7 @@ use borrow.Author.Tests.{eqb-true, leb-true, ltb-false}
 use lib.Dec.{T, eqb, ltb}
 use lib.Ieee.{Float}
 use lib.ListN.{length, length-append}
-use Rattle.vector.specs.Rows.{endsFrom}
+use Rattle.rows.specs.Rows.{endsFrom}
 use Rattle.cell.specs.Types.{allow, spaceNumber, spaceType, spaceNodes, shapeOf, planeNumber, planeType, planeNodes, planeCorners}
 use Rattle.cell.specs.Faces.{Face, separator, onto, stretches, kept, facesOf, polygonOf}
 use Rattle.cell.specs.Read.{areRows, Polygon, polygons, Kind, kind, refused, read, inOrder, readAs, spaceKind, planeKind}

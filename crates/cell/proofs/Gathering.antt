@@ -12,7 +12,7 @@ use lib.Ieee.{Float}
 use lib.Ieee.Fits.{and-l, and-r}
 use lib.ListN.{length, getD, take, drop, length-append, length-drop, drop-of-length-le}
 use lib.Seq.{drop-cons, take-suc, take-all, take-at, drop-at, take-length, drop-drop, length-take-le, paste}
-use Rattle.vector.specs.Rows.{over, row}
+use Rattle.rows.specs.Rows.{over, row}
 use Rattle.cell.specs.Read.{corner, areRows}
 use Rattle.cell.specs.Code.{gathered}
 use Rattle.cell.proofs.Lists.{flatten-snoc}

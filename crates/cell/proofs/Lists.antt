@@ -6,7 +6,7 @@ use native.Mathlib.Omega.{arith}
 use native.Mathlib.Nat.{add-zero, zero-add}
 use lib.ListN.{length, drop, length-append, length-map}
 use lib.Seq.{paste, take-length}
-use Rattle.vector.specs.Rows.{endsFrom, over}
+use Rattle.rows.specs.Rows.{endsFrom, over}
 
 pub length-snoc : {A : Type 0} (l : List A) (x : A) → length (l ++ x ∷ []) ≡ length l + 1
 length-snoc l x = length-append l (x ∷ [])

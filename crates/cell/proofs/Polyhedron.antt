@@ -10,7 +10,7 @@ use borrow.Author.Tests.{lt-ltb, le-ltb, eq-eqb, ne-eqb}
 use lib.Dec.{eqb}
 use lib.ListN.{length, getD, take, drop, set, length-append, length-set}
 use lib.Seq.{drop-cons, take-suc-set, take-take, take-at, drop-length}
-use Rattle.vector.specs.Rows.{endsFrom}
+use Rattle.rows.specs.Rows.{endsFrom}
 use Rattle.cell.specs.Faces.{Face, separator, onto, stretches, kept}
 use Rattle.cell.specs.Code.{Listed}
 use Rattle.cell.proofs.Lists.{length-snoc, flatten-snoc, ends-snoc}

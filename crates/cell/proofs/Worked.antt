@@ -7,7 +7,7 @@ use Prim.Native.Nat.{ℕ}
 use lib.Ieee.{Float, fin}
 use lib.IntN.{pos}
 use lib.ListN.{replicate}
-use Rattle.vector.specs.Rows.{endsFrom}
+use Rattle.rows.specs.Rows.{endsFrom}
 use Rattle.cell.specs.Types.{spaceType, planeType}
 use Rattle.cell.specs.Faces.{separator, stretches, kept, facesOf, from}
 use Rattle.cell.specs.Read.{areRows, Polygon, refused, read, readAs, spaceCell, planeCell, endsOf}

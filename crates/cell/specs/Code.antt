@@ -6,7 +6,7 @@ use mathlib.Core.Bool.{Bool, true, cond, _&&_}
 use lib.Dec.{T, ltb}
 use lib.Ieee.{Float}
 use lib.ListN.{length, take}
-use Rattle.vector.specs.Rows.{endsFrom, over}
+use Rattle.rows.specs.Rows.{endsFrom, over}
 use Rattle.cell.specs.Faces.{Face, polygonOf}
 use Rattle.cell.specs.Read.{corner, areRows, polygons, Read, refused, read, Gave, Faced}
 use Rattle.cell.specs.declared.Reading.{Reading}

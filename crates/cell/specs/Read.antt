@@ -7,7 +7,7 @@ use mathlib.Core.Bool.{Bool, true, cond, _&&_}
 use lib.Dec.{eqb, ltb}
 use lib.Ieee.{Float}
 use lib.ListN.{length, getD}
-use Rattle.vector.specs.Rows.{row, over, endsFrom}
+use Rattle.rows.specs.Rows.{row, over, endsFrom}
 use Rattle.cell.specs.Types.{allow, spaceType, spaceNodes, shapeOf, planeType, planeNodes, planeCorners}
 use Rattle.cell.specs.Faces.{Face, facesOf, polygonOf}
 use Rattle.cell.specs.declared.Nodes.{Nodes}

@@ -5,7 +5,7 @@ ghost use Prim.Native.Nat.{_+_, _*_, _/_, _<_, _≤_};
 ghost use lib.Dec.{T};
 ghost use lib.ListN.{length, getD, take};
 ghost use lib.Seq.{paste};
-ghost use Rattle.vector.specs.Rows.{over};
+ghost use Rattle.rows.specs.Rows.{over};
 ghost use Rattle.cell.specs.Types.{allow, spaceNumber, spaceType, spaceNodes, spaceCorners, shapeOf};
 ghost use Rattle.cell.specs.Types.{planeNumber, planeType, planeNodes, planeCorners};
 ghost use Rattle.cell.specs.Faces.{stretches, kept, facesOf, polygonOf};

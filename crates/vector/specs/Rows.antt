@@ -1,14 +1,12 @@
--- A flat list of floats read as rows of w floats, for any width w, and pairs of rows as segments. Definitions only.
-use mathlib.Core.List.{List, [], _∷_, _++_}
+-- Rows of a flat list, the first n of them or one more written, and pairs of rows as segments. Definitions only.
+use mathlib.Core.List.{List, [], _∷_}
 use Prim.Native.Nat.{ℕ, zero, suc, _+_, _*_}
 use lib.Ieee.{Float}
-use lib.ListN.{length, take, drop}
+use lib.ListN.{take, drop}
 use lib.Seq.{sets}
 use Rattle.vector.specs.Vector.{Vector}
-
--- row k
-abbrev pub row : ℕ → List Float → ℕ → Vector
-row w xs k = take w (drop (w * k) xs)
+pub use Rattle.rows.specs.Rows.{row, over}
+unfoldable pub use Rattle.rows.specs.Rows.{endsFrom}
 
 -- the first n rows
 abbrev pub rows : ℕ → ℕ → List Float → List Vector
@@ -40,12 +38,3 @@ segs w n xs = pairUp (rows w (2 * n) xs)
 -- xs with the segment from a to b written as segment n
 abbrev pub putSeg : ℕ → List Float → ℕ → Vector → Vector → List Float
 putSeg w xs n a b = put w (put w xs (2 * n) a) (2 * n + 1) b
-
--- where each list ends when they stand in a row: running totals of their lengths, n standing before them
-unfoldable pub endsFrom : {A : Type 0} → ℕ → List (List A) → List ℕ
-endsFrom n [] = []
-endsFrom n (l ∷ ls) = (n + length l) ∷ endsFrom (n + length l) ls
-
--- a buffer xs with ws written over its start
-abbrev pub over : {A : Type 0} → List A → List A → List A
-over ws xs = ws ++ drop (length ws) xs

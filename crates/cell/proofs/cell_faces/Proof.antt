@@ -1,7 +1,7 @@
 -- `cell_faces` meets its contract: the tables are the definition's faces in a row. Assumes nothing.
 use mathlib.Core.Path.{refl}
 use mathlib.Core.List.{flatten}
-use Rattle.vector.specs.Rows.{endsFrom}
+use Rattle.rows.specs.Rows.{endsFrom}
 use Rattle.cell.specs.Faces.{tet, wedge, hex}
 use Rattle.cell.proofs.Bounds.{gathers}
 use borrow.Author.Needs.{needs}
