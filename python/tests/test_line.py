@@ -107,3 +107,10 @@ def test_stretches_of_the_plate():
     record = cicelybeam.cut_line(sample.plate(), (0, 0, 0.4), (1, 0, 0)).record
     assert np.array(record.stretches) == pytest.approx(np.array([[-3, -1], [1, 3]]))
     assert record.covered == pytest.approx(4)
+
+
+def test_polygon_that_the_line_crosses_without_a_segment_is_told(cube):
+    """With tolerance 0 the section is whole, and the line's crossings of it are rounded off the line."""
+    record = cicelybeam.cut_line(cube, (0.5, 0.5, 0.5), (3, -5, 6), 0).record
+    assert (record.segments, record.undrawn, record.without_segment) == (0, [], [0]) and not record.all_drawn
+    assert cicelybeam.cut_line(cube, (0.5, 0.5, 0.5), (3, -5, 6)).record.all_drawn
