@@ -2,7 +2,7 @@
 use mathlib.Core.Path.{_≡_, refl, sym, ap, _∙_, subst}
 use mathlib.Core.List.{List, flatten}
 use mathlib.Core.Bool.{Bool, true, false, cond}
-use Prim.Native.Nat.{ℕ, _+_, _≤_}
+use Prim.Native.Nat.{ℕ, _+_, _*_, _≤_}
 use native.Mathlib.Omega.{arith}
 use borrow.Author.Tests.{ne-eqb}
 use lib.Dec.{eqb}
@@ -13,9 +13,9 @@ use Rattle.cell.specs.Read.{Polygon, Read, refused, read, refusal, counts, mean
 use Rattle.cell.specs.declared.Reading.{Reading}
 use Rattle.cell.specs.declared.Reading.the-variants.{Refused, Cell}
 use Rattle.cell.proofs.Lists.{length-ends}
-use Rattle.clip.specs.Cell.{facesOf}
+use Rattle.clip.specs.Cell.{atMost, facesOf}
 use Rattle.clip.specs.Code.{Fit}
-use Rattle.entries.specs.Code.{Faces, Scratch, faceMost}
+use Rattle.entries.specs.Code.{FacesRead, faceMost}
 use Rattle.entries.proofs.Seam.{corners-most, face-most, seam-fit, seam-taken}
 
 -- a cell that was read: its polygons, and what the answer says of them
@@ -48,19 +48,11 @@ most-256 t = either (eqb t 18)
     either true = omega arith
     either false = omega arith
 
--- every type but PHED needs the room of TET4's tier
-pub fixed-scratch : {t : ℕ} {stops : List ℕ} {coords points space segments : List Float} → (t ≡ 18 → ⊥)
-    → Scratch 12 stops coords points space segments → Scratch t stops coords points space segments
-fixed-scratch {t} {stops} {coords} {points} {space} {segments} h s = record {
-  for-ends = rw e (s .for-ends);
-  for-corners = rw e (s .for-corners);
-  for-points = rw e (s .for-points);
-  for-space = rw e (s .for-space);
-  for-segments = rw e (s .for-segments);
-}
-  where
-    e : eqb t 18 ≡ false
-    e = ne-eqb t 18 h
+-- every type but PHED has faces like TET4's tier
+pub fixed-read : {t m : ℕ} {stops : List ℕ} {coords : List Float} → (t ≡ 18 → ⊥) → FacesRead t m stops coords → FacesRead 12 m stops coords
+fixed-read {t} h s =
+    let e : eqb t 18 ≡ false = ne-eqb t 18 h in
+    record { few = rw e at (s .few); fit = rw e at (s .fit); for-corners = s .for-corners }
 
 -- what was written, as its reader takes it
 module _ (t : ℕ) (c : List ℕ) (xs : List Float) {r : Reading} {coords coords′ : List Float} {stops stops′ : List ℕ}
@@ -89,24 +81,20 @@ module _ (t : ℕ) (c : List ℕ) (xs : List Float) {r : Reading} {coords coords
       in
       omega (arith, cell .faces, length-ends 0 (cell .polygons))
 
-  pub ready : {points space segments : List Float} → Scratch t stops coords points space segments → length coords′ ≡ length coords
-      → Faces m (take f stops′) coords′ points space segments
-  ready {points} {space} h l =
+  pub ready : 3 * spaceMost t ≤ length coords → length coords′ ≡ length coords → FacesRead t m (take f stops′) coords′
+  ready x l =
       let ps = cell .polygons in
       let n : length (flatten ps) ≤ spaceMost t = corners-most t c xs ps (cell .is) in
       let e : take f stops′ ≡ take (length ps) (over (endsFrom 0 ps) stops) = ap (λ k. take k stops′) (cell .faces) ∙ ap (take (length ps))
       ends-are in
       let k = cell .corners in
-      let b = most-256 t in
-      let x = h .for-corners in
-      let z = h .for-segments in
+      let p = 3 * atMost (faceMost t) in
+      let q = 6 * atMost (faceMost t) in
       record {
         few = omega arith;
         fit =
-            subst (λ i. Fit 0 (take f stops′) i (length points) (length space)) (sym k)
-            (subst (λ l. Fit 0 l (length (flatten ps)) (length points) (length space)) (sym e)
-            (seam-fit (faceMost t) (length points) (length space) ps stops (face-most t c xs ps (cell .is)) (h .for-points) (h
-            .for-space)));
+            subst (λ i. Fit 0 (take f stops′) i p q) (sym k)
+            (subst (λ l. Fit 0 l (length (flatten ps)) p q) (sym e)
+            (seam-fit (faceMost t) p q ps stops (face-most t c xs ps (cell .is)) (omega arith) (omega arith)));
         for-corners = omega arith;
-        for-segments = omega arith;
       }

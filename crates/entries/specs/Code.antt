@@ -7,7 +7,7 @@ use lib.ListN.{length}
 use lib.Ieee.{Float}
 use Rattle.vector.specs.View.{frameOf}
 use Rattle.vector.specs.Vector.{Frame}
-use Rattle.cell.specs.Read.{spaceMost, facesMost}
+use Rattle.cell.specs.Read.{spaceMost}
 use Rattle.clip.specs.Cell.{atMost}
 use Rattle.clip.specs.Code.{Fit}
 use Rattle.entries.specs.Outcome.{Outcome, refused, found, ToldLine}
@@ -46,10 +46,8 @@ pub record Roomy (m : ℕ) (numbers : List Float) (nodes ends : List ℕ) : Type
 abbrev pub faceMost : ℕ → ℕ
 faceMost t = cond (eqb t 18) 256 4
 
--- room for a cell of type number t, and for one of its faces
-pub record Scratch (t : ℕ) (stops : List ℕ) (coords points space segments : List Float) : Type 0 where
-  pub for-ends : facesMost t ≤ length stops
-  pub for-corners : 3 * spaceMost t ≤ length coords
-  pub for-points : 3 * atMost (faceMost t) ≤ length points
-  pub for-space : 6 * atMost (faceMost t) ≤ length space
-  pub for-segments : 4 * atMost (spaceMost t) ≤ length segments
+-- the faces of a cell of type number t as its reading leaves them: m corners, with ends that are running totals
+pub record FacesRead (t m : ℕ) (stops : List ℕ) (coords : List Float) : Type 0 where
+  pub few : m ≤ spaceMost t
+  pub fit : Fit 0 stops m (3 * atMost (faceMost t)) (6 * atMost (faceMost t))
+  pub for-corners : 3 * m ≤ length coords

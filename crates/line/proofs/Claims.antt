@@ -10,20 +10,20 @@ use Rattle.vector.specs.Vector.{framed, lineOf}
 use Rattle.vector.specs.Rows.{Seg}
 use Rattle.cell.specs.Types.{spaceType}
 use Rattle.cell.specs.Read.{read, spaceCell, spaceKind}
-use Rattle.entries.specs.Outcome.{found}
+use Rattle.entries.specs.Outcome.{found, andThen}
 use Rattle.entries.specs.Entries.{frameIn, lineOfSection, placedBy, polygonsOf, sectionOf}
 use Rattle.entries.proofs.Claims.{corners-in-all, sound-frame, sound-reading, sound-then, sound-unless}
 use Rattle.entries.proofs.Reading.{most-256}
 use Rattle.entries.proofs.Seam.{corners-most}
-use Rattle.line.specs.Code.{lineIn, linePolygons}
+use Rattle.line.specs.Code.{lineIn}
 use Rattle.line.specs.Claims.{LineSound}
 use Rattle.line.proofs.Sections.{line-bound}
 
 pub line-sound : LineSound
 line-sound t c xs o d tol a =
     let P : List Seg → Type 0 = λ ss. length ss ≤ 576 in
-    sound-then 1 7 (λ ps. spaceCell t c xs ≡ read ps) P (polygonsOf (spaceCell t c xs)) (λ ps. linePolygons o d tol (length (flatten ps)) a
-    ps)
+    sound-then 1 7 (λ ps. spaceCell t c xs ≡ read ps) P (polygonsOf (spaceCell t c xs)) (λ ps.
+    andThen (placedBy 3 o d (frameIn (lineOf o d))) (lineIn tol (length (flatten ps)) a ps))
     (sound-reading 3 (spaceKind (spaceType t)) c xs)
     (λ ps r.
     sound-then 1 7 (λ f. lineOf o d ≡ framed f) P (placedBy 3 o d (frameIn (lineOf o d))) (lineIn tol (length (flatten ps)) a ps)

@@ -6,17 +6,17 @@ ghost use lib.ListN.{length};
 ghost use Rattle.vector.specs.Vector.{lineOf};
 ghost use Rattle.vector.specs.View.{frameOf, vec2, vec3};
 ghost use Rattle.vector.specs.Rows.{rows, segs};
-ghost use Rattle.cell.specs.Read.{spaceMost};
+ghost use Rattle.cell.specs.Read.{facesMost, spaceMost};
 ghost use Rattle.clip.specs.Cell.{atMost, facesOf};
 ghost use Rattle.clip.specs.Code.{Points, Segments};
 ghost use Rattle.clip.specs.View.{cut2};
 ghost use Rattle.stitch.specs.Code.{Below};
 ghost use Rattle.stitch.specs.Walk.{pointAt};
-ghost use Rattle.entries.specs.Outcome.{GaveLine};
+ghost use Rattle.entries.specs.Outcome.{GaveLine, andThen};
 ghost use Rattle.entries.specs.Entries.{axis, frameIn, lineCut, lineOfSection, loopSegments, onLine, placedBy, sectionOf};
 ghost use Rattle.entries.specs.Entries.{segmentOnLine};
-ghost use Rattle.entries.specs.Code.{Roomy, meaning, placing};
-ghost use Rattle.line.specs.Code.{Lent, LentFor, Loop, Loops, lineIn, linePolygons, onLineOf};
+ghost use Rattle.entries.specs.Code.{FacesRead, Roomy, meaning, placing};
+ghost use Rattle.line.specs.Code.{Lent, Loop, Loops, cellCut, lineIn, onLineOf};
 use cell::Reading;
 use cell::SpaceType;
 use clip::plane::Cut;
@@ -45,94 +45,43 @@ pub fn slice_line_3d(
         (length (now (numbers .entry))))
         (meaning r) (now (numbers .entry)) (now (numbers .exit)) ⌝ }
 {
+    let by = place(origin, direction);
     if t == SpaceType::PHED {
-        return line_phed(conn, xs, origin, direction, tol, numbers);
+        return line_phed(conn, xs, by, tol, numbers);
     }
-    line_fixed(t, conn, xs, origin, direction, tol, numbers)
+    line_fixed(t, conn, xs, by, tol, numbers)
 }
 
 // The same for a polyhedron, whose faces can have 256 corners.
-fn line_phed(
-    conn: &[u64],
-    xs: &[f64],
-    origin: &[f64],
-    direction: &[f64],
-    tol: f64,
-    numbers: &mut [f64],
-) -> Line
+fn line_phed(conn: &[u64], xs: &[f64], by: Placing, tol: f64, numbers: &mut [f64]) -> Line
     ensures { λ r. ⌜ GaveLine
-        (lineCut 18 (now (conn .entry)) (now (xs .entry)) (now (origin .entry)) (now (direction .entry)) tol
-        (length (now (numbers .entry))))
+        (cellCut (placing by) 18 (now (conn .entry)) (now (xs .entry)) tol (length (now (numbers .entry))))
         (meaning r) (now (numbers .entry)) (now (numbers .exit)) ⌝ }
 {
     let mut coords = [0.0f64; 768];
     let mut stops = [0usize; 85];
-    let mut points = [0.0f64; 1152];
-    let mut space = [0.0f64; 2304];
-    let mut segments = [0.0f64; 1536];
-    let mut welded = [0.0f64; 1536];
-    let mut nodes = [0u32; 384];
-    let mut ends = [0u32; 128];
     line_within(
         SpaceType::PHED,
         conn,
         xs,
-        origin,
-        direction,
+        by,
         tol,
         numbers,
         &mut coords,
         &mut stops,
-        &mut points,
-        &mut space,
-        &mut segments,
-        &mut welded,
-        &mut nodes,
-        &mut ends,
     )
 }
 
 // The same for every other type: at most 24 face corners.
-fn line_fixed(
-    t: u8,
-    conn: &[u64],
-    xs: &[f64],
-    origin: &[f64],
-    direction: &[f64],
-    tol: f64,
-    numbers: &mut [f64],
-) -> Line
+fn line_fixed(t: u8, conn: &[u64], xs: &[f64], by: Placing, tol: f64, numbers: &mut [f64]) -> Line
     requires { ⌜ (t ≡ 18 → ⊥) ⌝ }
     ensures { λ r. ⌜ GaveLine
-        (lineCut t (now (conn .entry)) (now (xs .entry)) (now (origin .entry)) (now (direction .entry)) tol
-        (length (now (numbers .entry))))
+        (cellCut (placing by) t (now (conn .entry)) (now (xs .entry)) tol (length (now (numbers .entry))))
         (meaning r) (now (numbers .entry)) (now (numbers .exit)) ⌝ }
 {
     let mut coords = [0.0f64; 72];
     let mut stops = [0usize; 6];
-    let mut points = [0.0f64; 18];
-    let mut space = [0.0f64; 216];
-    let mut segments = [0.0f64; 144];
-    let mut welded = [0.0f64; 144];
-    let mut nodes = [0u32; 36];
-    let mut ends = [0u32; 12];
-    line_within(
-        t,
-        conn,
-        xs,
-        origin,
-        direction,
-        tol,
-        numbers,
-        &mut coords,
-        &mut stops,
-        &mut points,
-        &mut space,
-        &mut segments,
-        &mut welded,
-        &mut nodes,
-        &mut ends,
-    )
+    line_within(t, conn, xs, by, tol, numbers, &mut coords, &mut stops)
 }
 
 // Refusals 1 to 4, then the cut; the scratch slices are large enough for the type.
@@ -140,127 +89,127 @@ fn line_within(
     t: u8,
     conn: &[u64],
     xs: &[f64],
-    origin: &[f64],
-    direction: &[f64],
+    by: Placing,
     tol: f64,
     numbers: &mut [f64],
     coords: &mut [f64],
     stops: &mut [usize],
-    points: &mut [f64],
-    space: &mut [f64],
-    segments: &mut [f64],
-    welded: &mut [f64],
-    nodes: &mut [u32],
-    ends: &mut [u32],
 ) -> Line
-    requires { ⌜ LentFor t (now stops) (now coords) (now points) (now space) (now segments)
-        × Roomy (spaceMost t) (now welded) (now nodes) (now ends) ⌝ }
+    requires { ⌜ (3 * spaceMost t ≤ length (now coords)) × (facesMost t ≤ length (now stops)) ⌝ }
     ensures { λ r. ⌜ GaveLine
-        (lineCut t (now (conn .entry)) (now (xs .entry)) (now (origin .entry)) (now (direction .entry)) tol
-        (length (now (numbers .entry))))
+        (cellCut (placing by) t (now (conn .entry)) (now (xs .entry)) tol (length (now (numbers .entry))))
         (meaning r) (now (numbers .entry)) (now (numbers .exit)) ⌝ }
 {
     match cell::read_space_cell(t, conn, xs, coords, stops) {
         Reading::Refused(k) => Line::Refused(k),
-        Reading::Cell { corners, faces } => line_faces(
-            origin,
-            direction,
-            tol,
-            corners,
-            &stops[..faces],
-            numbers,
-            coords,
-            points,
-            space,
-            segments,
-            welded,
-            nodes,
-            ends,
-        ),
+        Reading::Cell { corners, faces } => {
+            line_faces(t, by, tol, corners, &stops[..faces], numbers, coords)
+        }
     }
 }
 
-// Refusals 5 and 6, then the cut of faces with m corners, whose coordinates stand in a row.
+// Refusals 5 to 7, then the cut of faces with m corners, whose coordinates stand in a row.
 fn line_faces(
-    origin: &[f64],
-    direction: &[f64],
+    t: u8,
+    by: Placing,
     tol: f64,
     m: usize,
     stops: &[usize],
     numbers: &mut [f64],
     coords: &mut [f64],
-    points: &mut [f64],
-    space: &mut [f64],
-    segments: &mut [f64],
-    welded: &mut [f64],
-    nodes: &mut [u32],
-    ends: &mut [u32],
 ) -> Line
-    requires { ⌜ Lent m (now stops) (now coords) (now points) (now space) (now segments)
-        × Roomy m (now welded) (now nodes) (now ends) ⌝ }
+    requires { ⌜ FacesRead t m (now stops) (now coords) ⌝ }
     ensures { λ r. ⌜ GaveLine
-        (linePolygons (now (origin .entry)) (now (direction .entry)) tol m (length (now (numbers .entry)))
-        (facesOf 3 (now (stops .entry)) (now (coords .entry))))
+        (andThen (placing by) (lineIn tol m (length (now (numbers .entry)))
+        (facesOf 3 (now (stops .entry)) (now (coords .entry)))))
         (meaning r) (now (numbers .entry)) (now (numbers .exit)) ⌝ }
 {
-    match place(origin, direction) {
+    match by {
         Placing::Refused(k) => Line::Refused(k),
-        Placing::On(plane) => line_on(
-            plane,
-            tol,
-            m,
-            stops,
-            numbers,
-            coords,
-            points,
-            space,
-            segments,
-            welded,
-            nodes,
-            ends,
-        ),
+        Placing::On(plane) => {
+            if 14 * m > numbers.len() {
+                return Line::Refused(7);
+            }
+            if t == SpaceType::PHED {
+                return Line::Cut(section_phed(plane, tol, m, stops, numbers, coords));
+            }
+            Line::Cut(section_fixed(plane, tol, m, stops, numbers, coords))
+        }
     }
 }
 
-// Refusal 7, then the cut by the line u of a plane.
-fn line_on(
+// The section of the faces of a polyhedron, and its loops cut: each face can have 256 corners.
+fn section_phed(
     plane: Plane,
     tol: f64,
     m: usize,
     stops: &[usize],
     numbers: &mut [f64],
     coords: &mut [f64],
-    points: &mut [f64],
-    space: &mut [f64],
-    segments: &mut [f64],
-    welded: &mut [f64],
-    nodes: &mut [u32],
-    ends: &mut [u32],
-) -> Line
-    requires { ⌜ Lent m (now stops) (now coords) (now points) (now space) (now segments)
-        × Roomy m (now welded) (now nodes) (now ends) ⌝ }
-    ensures { λ r. ⌜ GaveLine
-        (lineIn tol m (length (now (numbers .entry))) (facesOf 3 (now (stops .entry)) (now (coords .entry)))
-        (frameOf plane))
-        (meaning r) (now (numbers .entry)) (now (numbers .exit)) ⌝ }
+) -> usize
+    requires { ⌜ FacesRead 18 m (now stops) (now coords) × (14 * m ≤ length (now numbers)) ⌝ }
+    ensures { λ r. ⌜ Segments 3 (now (numbers .entry))
+        (lineOfSection (frameOf plane) tol
+        (sectionOf (frameOf plane) tol (facesOf 3 (now (stops .entry)) (now (coords .entry)))))
+        r (now (numbers .exit)) ⌝ }
 {
-    if 14 * m > numbers.len() {
-        return Line::Refused(7);
-    }
-    Line::Cut(line_section(
+    let mut points = [0.0f64; 1152];
+    let mut space = [0.0f64; 2304];
+    let mut segments = [0.0f64; 1536];
+    let mut welded = [0.0f64; 1536];
+    let mut nodes = [0u32; 384];
+    let mut ends = [0u32; 128];
+    line_section(
         plane,
         tol,
         m,
         stops,
         numbers,
         coords,
-        points,
-        space,
-        segments,
-        welded,
-        nodes,
-        ends,
-    ))
+        &mut points,
+        &mut space,
+        &mut segments,
+        &mut welded,
+        &mut nodes,
+        &mut ends,
+    )
+}
+
+// The same for every other type: each face has at most four corners.
+fn section_fixed(
+    plane: Plane,
+    tol: f64,
+    m: usize,
+    stops: &[usize],
+    numbers: &mut [f64],
+    coords: &mut [f64],
+) -> usize
+    requires { ⌜ FacesRead 12 m (now stops) (now coords) × (14 * m ≤ length (now numbers)) ⌝ }
+    ensures { λ r. ⌜ Segments 3 (now (numbers .entry))
+        (lineOfSection (frameOf plane) tol
+        (sectionOf (frameOf plane) tol (facesOf 3 (now (stops .entry)) (now (coords .entry)))))
+        r (now (numbers .exit)) ⌝ }
+{
+    let mut points = [0.0f64; 18];
+    let mut space = [0.0f64; 216];
+    let mut segments = [0.0f64; 144];
+    let mut welded = [0.0f64; 144];
+    let mut nodes = [0u32; 36];
+    let mut ends = [0u32; 12];
+    line_section(
+        plane,
+        tol,
+        m,
+        stops,
+        numbers,
+        coords,
+        &mut points,
+        &mut space,
+        &mut segments,
+        &mut welded,
+        &mut nodes,
+        &mut ends,
+    )
 }
 
 // The section of faces with m corners by a plane, and each of its loops cut by y = 0. What was lent for the corners,

@@ -4,11 +4,13 @@ ghost use Prim.Native.Nat.{_*_, _/_, _<_, _≤_};
 ghost use lib.ListN.{length, take};
 ghost use Rattle.vector.specs.Vector.{planeOf};
 ghost use Rattle.vector.specs.View.{frameOf};
+ghost use Rattle.cell.specs.Read.{facesMost, spaceMost};
 ghost use Rattle.clip.specs.Cell.{facesOf};
-ghost use Rattle.entries.specs.Outcome.{Gave, room, toldTolerance};
-ghost use Rattle.entries.specs.Entries.{cutPolygons, frameIn, placedBy, planeCut, sectionIn, stitchAlone, toleranceOf};
-ghost use Rattle.entries.specs.Code.{Faces, Scratch, placing};
-ghost use Rattle.section.specs.Code.{meaning, toleranceMeaning};
+ghost use Rattle.stitch.specs.Code.{Gave as Answered};
+ghost use Rattle.entries.specs.Outcome.{Gave, andThen, room, toldTolerance};
+ghost use Rattle.entries.specs.Entries.{frameIn, placedBy, planeCut, sectionIn, sectionOf, stitchAlone, toleranceOf};
+ghost use Rattle.entries.specs.Code.{FacesRead, Roomy, placing};
+ghost use Rattle.section.specs.Code.{cellCut, meaning, toleranceMeaning};
 use cell::Reading;
 use cell::SpaceType;
 use entries::Placing;
@@ -47,10 +49,11 @@ pub fn section_cell_by_plane(
         (meaning r) (now (numbers .entry)) (now (numbers .exit)) (now (nodes .entry)) (now (nodes .exit))
         (now (ends .entry)) (now (ends .exit)) ⌝ }
 {
+    let by = place(origin, normal);
     if t == SpaceType::PHED {
-        return section_phed(conn, xs, origin, normal, tol, numbers, nodes, ends);
+        return section_phed(conn, xs, by, tol, numbers, nodes, ends);
     }
-    section_fixed(t, conn, xs, origin, normal, tol, numbers, nodes, ends)
+    section_fixed(t, conn, xs, by, tol, numbers, nodes, ends)
 }
 
 // Stitching alone: segments of four numbers each, at most 384.
@@ -104,49 +107,40 @@ pub fn tolerance_in_plane(xs: &[f64]) -> Tolerance
 fn section_phed(
     conn: &[u64],
     xs: &[f64],
-    origin: &[f64],
-    normal: &[f64],
+    by: Placing,
     tol: f64,
     numbers: &mut [f64],
     nodes: &mut [u32],
     ends: &mut [u32],
 ) -> Section
     ensures { λ r. ⌜ Gave
-        (planeCut 18 (now (conn .entry)) (now (xs .entry)) (now (origin .entry)) (now (normal .entry)) tol
-        (length (now (numbers .entry))) (length (now (nodes .entry))) (length (now (ends .entry))))
+        (cellCut (placing by) 18 (now (conn .entry)) (now (xs .entry)) tol (length (now (numbers .entry)))
+        (length (now (nodes .entry))) (length (now (ends .entry))))
         (meaning r) (now (numbers .entry)) (now (numbers .exit)) (now (nodes .entry)) (now (nodes .exit))
         (now (ends .entry)) (now (ends .exit)) ⌝ }
 {
     let mut coords = [0.0f64; 768];
     let mut stops = [0usize; 85];
-    let mut points = [0.0f64; 1152];
-    let mut space = [0.0f64; 2304];
-    let mut segments = [0.0f64; 1536];
     section_within(
         SpaceType::PHED,
         conn,
         xs,
-        origin,
-        normal,
+        by,
         tol,
         &mut coords,
         &mut stops,
-        &mut points,
-        &mut space,
-        &mut segments,
         numbers,
         nodes,
         ends,
     )
 }
 
-// The plane cut of every other type: at most 24 face corners, four to a face.
+// The plane cut of every other type: at most 24 face corners.
 fn section_fixed(
     t: u8,
     conn: &[u64],
     xs: &[f64],
-    origin: &[f64],
-    normal: &[f64],
+    by: Placing,
     tol: f64,
     numbers: &mut [f64],
     nodes: &mut [u32],
@@ -154,28 +148,21 @@ fn section_fixed(
 ) -> Section
     requires { ⌜ (t ≡ 18 → ⊥) ⌝ }
     ensures { λ r. ⌜ Gave
-        (planeCut t (now (conn .entry)) (now (xs .entry)) (now (origin .entry)) (now (normal .entry)) tol
-        (length (now (numbers .entry))) (length (now (nodes .entry))) (length (now (ends .entry))))
+        (cellCut (placing by) t (now (conn .entry)) (now (xs .entry)) tol (length (now (numbers .entry)))
+        (length (now (nodes .entry))) (length (now (ends .entry))))
         (meaning r) (now (numbers .entry)) (now (numbers .exit)) (now (nodes .entry)) (now (nodes .exit))
         (now (ends .entry)) (now (ends .exit)) ⌝ }
 {
     let mut coords = [0.0f64; 72];
     let mut stops = [0usize; 6];
-    let mut points = [0.0f64; 18];
-    let mut space = [0.0f64; 36];
-    let mut segments = [0.0f64; 144];
     section_within(
         t,
         conn,
         xs,
-        origin,
-        normal,
+        by,
         tol,
         &mut coords,
         &mut stops,
-        &mut points,
-        &mut space,
-        &mut segments,
         numbers,
         nodes,
         ends,
@@ -187,37 +174,30 @@ fn section_within(
     t: u8,
     conn: &[u64],
     xs: &[f64],
-    origin: &[f64],
-    normal: &[f64],
+    by: Placing,
     tol: f64,
     coords: &mut [f64],
     stops: &mut [usize],
-    points: &mut [f64],
-    space: &mut [f64],
-    segments: &mut [f64],
     numbers: &mut [f64],
     nodes: &mut [u32],
     ends: &mut [u32],
 ) -> Section
-    requires { ⌜ Scratch t (now stops) (now coords) (now points) (now space) (now segments) ⌝ }
+    requires { ⌜ (3 * spaceMost t ≤ length (now coords)) × (facesMost t ≤ length (now stops)) ⌝ }
     ensures { λ r. ⌜ Gave
-        (planeCut t (now (conn .entry)) (now (xs .entry)) (now (origin .entry)) (now (normal .entry)) tol
-        (length (now (numbers .entry))) (length (now (nodes .entry))) (length (now (ends .entry))))
+        (cellCut (placing by) t (now (conn .entry)) (now (xs .entry)) tol (length (now (numbers .entry)))
+        (length (now (nodes .entry))) (length (now (ends .entry))))
         (meaning r) (now (numbers .entry)) (now (numbers .exit)) (now (nodes .entry)) (now (nodes .exit))
         (now (ends .entry)) (now (ends .exit)) ⌝ }
 {
     match cell::read_space_cell(t, conn, xs, coords, stops) {
         Reading::Refused(k) => Section::Refused(k),
         Reading::Cell { corners, faces } => section_faces(
-            origin,
-            normal,
+            t,
+            by,
             tol,
             corners,
             coords,
             &stops[..faces],
-            points,
-            space,
-            segments,
             numbers,
             nodes,
             ends,
@@ -225,93 +205,121 @@ fn section_within(
     }
 }
 
-// Refusals 5 and 6, then the cut of faces with m corners, whose coordinates stand in a row.
+// Refusals 5 to 7, then the cut of faces with m corners, whose coordinates stand in a row.
 fn section_faces(
-    origin: &[f64],
-    normal: &[f64],
+    t: u8,
+    by: Placing,
     tol: f64,
     m: usize,
     coords: &[f64],
     stops: &[usize],
-    points: &mut [f64],
-    space: &mut [f64],
-    segments: &mut [f64],
     numbers: &mut [f64],
     nodes: &mut [u32],
     ends: &mut [u32],
 ) -> Section
-    requires { ⌜ Faces m (now stops) (now coords) (now points) (now space) (now segments) ⌝ }
+    requires { ⌜ FacesRead t m (now stops) (now coords) ⌝ }
     ensures { λ r. ⌜ Gave
-        (cutPolygons (now (origin .entry)) (now (normal .entry)) tol m (length (now (numbers .entry)))
-        (length (now (nodes .entry))) (length (now (ends .entry)))
-        (facesOf 3 (now (stops .entry)) (now (coords .entry))))
+        (andThen (placing by) (sectionIn tol m (length (now (numbers .entry))) (length (now (nodes .entry)))
+        (length (now (ends .entry))) (facesOf 3 (now (stops .entry)) (now (coords .entry)))))
         (meaning r) (now (numbers .entry)) (now (numbers .exit)) (now (nodes .entry)) (now (nodes .exit))
         (now (ends .entry)) (now (ends .exit)) ⌝ }
 {
-    match place(origin, normal) {
+    match by {
         Placing::Refused(k) => Section::Refused(k),
         Placing::On(plane) => {
-            section_on(
-                plane,
-                tol,
-                m,
-                coords,
-                stops,
-                points,
-                space,
-                segments,
-                numbers,
-                nodes,
-                ends,
-            )
+            if !room(
+                6 * m,
+                3 * m / 2,
+                m / 2,
+                numbers.len(),
+                nodes.len(),
+                ends.len(),
+            ) {
+                return Section::Refused(7);
+            }
+            if t == SpaceType::PHED {
+                return Section::Cut(stitch_phed(
+                    plane,
+                    tol,
+                    m,
+                    coords,
+                    stops,
+                    numbers,
+                    nodes,
+                    ends,
+                ));
+            }
+            Section::Cut(stitch_fixed(plane, tol, m, coords, stops, numbers, nodes, ends))
         }
     }
 }
 
-// Refusal 7, then the cut by a plane.
-fn section_on(
+// The section of the faces of a polyhedron, each of which can have 256 corners.
+fn stitch_phed(
     plane: Plane,
     tol: f64,
     m: usize,
     coords: &[f64],
     stops: &[usize],
-    points: &mut [f64],
-    space: &mut [f64],
-    segments: &mut [f64],
     numbers: &mut [f64],
     nodes: &mut [u32],
     ends: &mut [u32],
-) -> Section
-    requires { ⌜ Faces m (now stops) (now coords) (now points) (now space) (now segments) ⌝ }
-    ensures { λ r. ⌜ Gave
-        (sectionIn tol m (length (now (numbers .entry))) (length (now (nodes .entry))) (length (now (ends .entry)))
-        (facesOf 3 (now (stops .entry)) (now (coords .entry))) (frameOf plane))
-        (meaning r) (now (numbers .entry)) (now (numbers .exit)) (now (nodes .entry)) (now (nodes .exit))
-        (now (ends .entry)) (now (ends .exit)) ⌝ }
+) -> Stitched
+    requires { ⌜ FacesRead 18 m (now stops) (now coords) × Roomy m (now numbers) (now nodes) (now ends) ⌝ }
+    ensures { λ r. ⌜ Answered (sectionOf (frameOf plane) tol (facesOf 3 (now (stops .entry)) (now (coords .entry)))) r
+        (now (numbers .entry)) (now (numbers .exit)) (now (nodes .entry)) (now (nodes .exit)) (now (ends .entry))
+        (now (ends .exit)) ⌝ }
 {
-    if !room(
-        6 * m,
-        3 * m / 2,
-        m / 2,
-        numbers.len(),
-        nodes.len(),
-        ends.len(),
-    ) {
-        return Section::Refused(7);
-    }
-    Section::Cut(entries::stitch_faces(
+    let mut points = [0.0f64; 1152];
+    let mut space = [0.0f64; 2304];
+    let mut segments = [0.0f64; 1536];
+    entries::stitch_faces(
         plane,
         tol,
         m,
         coords,
         stops,
-        points,
-        space,
-        segments,
+        &mut points,
+        &mut space,
+        &mut segments,
         numbers,
         nodes,
         ends,
-    ))
+    )
+}
+
+// The section of the faces of every other type, each of at most four corners.
+fn stitch_fixed(
+    plane: Plane,
+    tol: f64,
+    m: usize,
+    coords: &[f64],
+    stops: &[usize],
+    numbers: &mut [f64],
+    nodes: &mut [u32],
+    ends: &mut [u32],
+) -> Stitched
+    requires { ⌜ FacesRead 12 m (now stops) (now coords) × Roomy m (now numbers) (now nodes) (now ends) ⌝ }
+    ensures { λ r. ⌜ Answered (sectionOf (frameOf plane) tol (facesOf 3 (now (stops .entry)) (now (coords .entry)))) r
+        (now (numbers .entry)) (now (numbers .exit)) (now (nodes .entry)) (now (nodes .exit)) (now (ends .entry))
+        (now (ends .exit)) ⌝ }
+{
+    let mut points = [0.0f64; 18];
+    let mut space = [0.0f64; 36];
+    let mut segments = [0.0f64; 144];
+    entries::stitch_faces(
+        plane,
+        tol,
+        m,
+        coords,
+        stops,
+        &mut points,
+        &mut space,
+        &mut segments,
+        numbers,
+        nodes,
+        ends,
+    )
 }
 
 // Whether buffers of lengths a, b and d hold x numbers, y nodes and z ends.

@@ -1,33 +1,36 @@
 -- `line_faces` meets its contract. Assumes nothing.
-use mathlib.Core.Path.{ap, sym, _∙_}
+use mathlib.Core.Path.{_∙_, ap, subst, sym}
+use borrow.Author.Tests.{le-leb, lt-leb}
 use lib.ListN.{length}
-use Rattle.clip.specs.Cell.{facesOf}
-use Rattle.entries.specs.Outcome.{andThen}
-use Rattle.entries.specs.Code.{placing}
-use Rattle.line.specs.Code.{lineIn}
-use Rattle.entries.proofs.Answers.{gave-refusal, gave-same}
+use Rattle.vector.specs.View.{frameOf}
+use Rattle.vector.proofs.Rows.{segs-length}
+use Rattle.entries.specs.Code.{FacesRead}
+use Rattle.entries.proofs.Answers.{gave-refusal, gave-segments}
+use Rattle.entries.proofs.Reading.{fixed-read}
+use Rattle.entries.proofs.Refusals.{test-failed, test-passed}
+use Rattle.line.proofs.Reading.{placed-on, unplaced}
+use Rattle.line.proofs.Sections.{line-fits}
 use borrow.Author.Needs.{needs}
 use Rattle.line.proofs.line_faces.Statement.{statement}
 use Rattle.line.proofs.line_faces.Tie as tie
 
-place-requires : tie.Need-place-requires
-place-requires c κs = search needs
+enum-known-by : tie.Need-enum-known-by
+enum-known-by c = search needs
 
-enum-known-k : tie.Need-enum-known-k
-enum-known-k c = search needs
+enum-known-by-2 : tie.Need-enum-known-by-2
+enum-known-by-2 c = search needs
 
-enum-known-plane : tie.Need-enum-known-plane
-enum-known-plane c = search needs
-
-line-on-requires : tie.Need-line-on-requires
-line-on-requires c κs = search needs
+mul-if1 : tie.Need-mul-if1
+mul-if1 c = search needs
 
 returns : tie.Need-returns
-returns c =
-    let g = c .before .before .before .before .before .before .before .before .before .before .before .before .before .before .before .args
-    in
-    let next = lineIn (g .tol) (g .m) (length (g .numbers .now)) (facesOf 3 (g .stops .now) (g .coords .now)) in
-    gave-refusal _ (ap (λ o. andThen o next) (sym (c .before .before .before .place .ensures) ∙ ap placing (c .before .k .given .1)))
+returns c = gave-refusal _ (placed-on _ (c .before .before .by2 .given .1) (test-failed 7 _ _ (lt-leb _ _ (c .if1 .taken))))
+
+section-phed-requires : tie.Need-section-phed-requires
+section-phed-requires c κs =
+    let s = c .before .before .before .before .before .before .before .before .before .before in
+    let g = s .args in
+    (subst (λ t. FacesRead t (g .m) (g .stops .now) (g .coords .now)) (c .before .before .if2 .taken) (s .pre), c .before .before .before .if1 .left)
 
 same-length : tie.Need-same-length
 same-length c = search needs
@@ -35,52 +38,50 @@ same-length c = search needs
 same-length-2 : tie.Need-same-length-2
 same-length-2 c = search needs
 
+returns-2 : tie.Need-returns-2
+returns-2 c =
+    let s = c .before .before .before .before .before .before .before .before .before .before .before .before .before .before .before in
+    let g = s .args in
+    let h = c .before .before .before .before .section-phed .ensures in
+    gave-segments (placed-on _ (c .before .before .before .before .before .before .before .before .before .before .by2 .given .1) (test-passed 7 _ _ (le-leb _ _ (c .before .before .before .before .before .before .before .before .if1 .left)))) h (c .before .before .before .before .section-phed .kept .1 .1 .1 .1 .0)
+    (line-fits (frameOf (c .before .before .before .before .before .before .before .before .before .before .by2 .given .0 .0)) (g .tol) (g .m) (g .stops .now) (g .coords .now) (length (g .numbers .now)) _ _ _ (s .pre .fit) (c .before .before .before .before .before .before .before .before .if1 .left)
+    (sym (segs-length 3 _ _) ∙ ap length (h .are)))
+
+section-fixed-requires : tie.Need-section-fixed-requires
+section-fixed-requires c κs = (fixed-read (c .before .before .if2 .left) (c .before .before .before .before .before .before .before .before .before .before .pre), c .before .before .before .if1 .left)
+
+returns-3 : tie.Need-returns-3
+returns-3 c = gave-refusal _ (unplaced _ (c .before .by .given .1))
+
 same-length-3 : tie.Need-same-length-3
 same-length-3 c = search needs
 
 same-length-4 : tie.Need-same-length-4
 same-length-4 c = search needs
 
-same-length-5 : tie.Need-same-length-5
-same-length-5 c = search needs
-
-same-length-6 : tie.Need-same-length-6
-same-length-6 c = search needs
-
-same-length-7 : tie.Need-same-length-7
-same-length-7 c = search needs
-
-same-length-8 : tie.Need-same-length-8
-same-length-8 c = search needs
-
-returns-2 : tie.Need-returns-2
-returns-2 c =
-    let g = c .before .before .before .before .before .before .before .before .before .before .before .before .before .before .before
-    .before .before .before .before .before .before .before .before .before .before .before .before .before .before .before .before .before
-    .before .before .before .before .before .before .before .before .args in
-    let next = lineIn (g .tol) (g .m) (length (g .numbers .now)) (facesOf 3 (g .stops .now) (g .coords .now)) in
-    gave-same (ap (λ o. andThen o next) (sym (c .before .before .before .before .before .before .before .before .before .before .before
-    .before .before .before .before .before .before .before .before .before .before .before .before .before .before .before .before .before
-    .place .ensures) ∙ ap placing (c .before .before .before .before .before .before .before .before .before .before .before .before .before
-    .before .before .before .before .before .before .before .before .before .before .before .before .before .plane .given .1))) (c .before
-    .before .before .before .before .before .before .before .before .before .before .before .before .before .before .before .line-on
-    .ensures)
+returns-4 : tie.Need-returns-4
+returns-4 c =
+    let s = c .before .before .before .before .before .before .before .before .before .before .before .before .before .before .before in
+    let g = s .args in
+    let h = c .before .before .before .before .section-fixed .ensures in
+    gave-segments (placed-on _ (c .before .before .before .before .before .before .before .before .before .before .by2 .given .1) (test-passed 7 _ _ (le-leb _ _ (c .before .before .before .before .before .before .before .before .if1 .left)))) h (c .before .before .before .before .section-fixed .kept .1 .1 .1 .1 .0)
+    (line-fits (frameOf (c .before .before .before .before .before .before .before .before .before .before .by2 .given .0 .0)) (g .tol) (g .m) (g .stops .now) (g .coords .now) (length (g .numbers .now)) _ _ _ (s .pre .fit) (c .before .before .before .before .before .before .before .before .if1 .left)
+    (sym (segs-length 3 _ _) ∙ ap length (h .are)))
 
 pub line-faces-spec : {M : Type 1} → statement M
 line-faces-spec =
     tie.close
     (tie.spec
-    place-requires
-    enum-known-k
-    enum-known-plane
-    line-on-requires
+    enum-known-by
+    enum-known-by-2
+    mul-if1
     returns
+    section-phed-requires
     same-length
     same-length-2
+    returns-2
+    section-fixed-requires
+    returns-3
     same-length-3
     same-length-4
-    same-length-5
-    same-length-6
-    same-length-7
-    same-length-8
-    returns-2)
+    returns-4)

@@ -3,9 +3,10 @@ use mathlib.Core.Path.{sym}
 use native.Mathlib.Omega.{arith}
 use lib.ListN.{length}
 use lib.Seq.{length-take-le}
-use Rattle.entries.proofs.Reading.{faces-few, was-refused}
+use Rattle.entries.specs.Code.{placing}
 use Rattle.entries.proofs.Answers.{gave-refusal, gave-same}
-use Rattle.line.proofs.Reading.{line-ready, line-of-faces, line-refused, section-room}
+use Rattle.entries.proofs.Reading.{faces-few, ready, was-refused}
+use Rattle.line.proofs.Reading.{cut-of-faces, cut-refused}
 use borrow.Author.Needs.{needs}
 use Rattle.line.proofs.line_within.Statement.{statement}
 use Rattle.line.proofs.line_within.Tie as tie
@@ -21,35 +22,19 @@ enum-known-corners c = search needs
 
 slice-reshare-prefix-line-faces : tie.Need-slice-reshare-prefix-line-faces
 slice-reshare-prefix-line-faces c =
-    let g = c .before .before .before .before .before .before .before .before .before .before .before .before .before .before .before
-    .before .before .before .before .before .before .before .before .args in
-    faces-few (g .t) (g .conn .now) (g .xs .now) (c .before .before .before .before .before .before .before .read-space-cell .ensures) (c
-    .before .corners .given .1)
+    let g = c .before .before .before .before .before .before .before .before .before .before .before .before .before .before .before .args in
+    faces-few (g .t) (g .conn .now) (g .xs .now) (c .before .before .before .before .before .before .before .read-space-cell .ensures) (c .before .corners .given .1)
 
 slice-aggregate-line-faces : tie.Need-slice-aggregate-line-faces
 slice-aggregate-line-faces c =
-    let g = c .before .before .before .before .before .before .before .before .before .before .before .before .before .before .before
-    .before .before .before .before .before .before .before .before .before .args in
-    sym (length-take-le _ _ (faces-few (g .t) (g .conn .now) (g .xs .now) (c .before .before .before .before .before .before .before .before
-    .read-space-cell .ensures) (c .before .before .corners .given .1)))
+    let g = c .before .before .before .before .before .before .before .before .before .before .before .before .before .before .before .before .args in
+    sym (length-take-le _ _ (faces-few (g .t) (g .conn .now) (g .xs .now) (c .before .before .before .before .before .before .before .before .read-space-cell .ensures) (c .before .before .corners .given .1)))
 
 line-faces-requires : tie.Need-line-faces-requires
 line-faces-requires c κs =
-    let s = c .before .before .before .before .before .before .before .before .before .before .before .before .before .before .before
-    .before .before .before .before .before .before .before .before .before .before .before .before .before .before .before .before .before
-    in
-    let g = s .args in (
-      line-ready (g .t) (g .conn .now) (g .xs .now) (c .before .before .before .before .before .before .before .before .before .before
-          .before .before .before .before .before .before .read-space-cell .ensures) (c .before .before .before .before .before .before .before
-          .before .before .before .corners .given .1) (s .pre .0) (omega (
-            arith,
-            c .before .before .before .before .before .before .before
-                .before .before .before .before .before .before .before .before .before .read-space-cell .kept .1 .1 .1 .0,
-          )),
-      section-room (g .t) (g .conn .now) (g .xs .now) (c .before .before .before .before .before .before .before .before .before .before
-          .before .before .before .before .before .before .read-space-cell .ensures) (c .before .before .before .before .before .before .before
-          .before .before .before .corners .given .1) (s .pre .1),
-    )
+    let s = c .before .before .before .before .before .before .before .before .before .before .before .before .before .before .before .before .before .before in
+    let g = s .args in
+    ready (g .t) (g .conn .now) (g .xs .now) (c .before .before .before .before .before .before .before .before .before .before .read-space-cell .ensures) (c .before .before .before .before .corners .given .1) (s .pre .0) (omega (arith, c .before .before .before .before .before .before .before .before .before .before .read-space-cell .kept .1 .1 .1 .0))
 
 same-length : tie.Need-same-length
 same-length c = search needs
@@ -59,11 +44,9 @@ same-length-2 c = search needs
 
 returns : tie.Need-returns
 returns c =
-    let g = c .before .before .before .before .before .before .before .before .before .before .before .before .before .before .before
-    .before .before .before .before .before .before .before .before .args in
+    let g = c .before .before .before .before .before .before .before .before .before .before .before .before .before .before .before .args in
     gave-refusal _
-    (line-refused (g .t) (g .conn .now) (g .xs .now) (g .origin .now) (g .direction .now) (g .tol) (length (g .numbers .now))
-    (was-refused (c .before .before .before .before .before .before .before .read-space-cell .ensures) (c .before .k .given .1)))
+    (cut-refused (placing (g .by)) (g .t) (g .conn .now) (g .xs .now) (g .tol) (length (g .numbers .now)) (was-refused (c .before .before .before .before .before .before .before .read-space-cell .ensures) (c .before .k .given .1)))
 
 same-length-3 : tie.Need-same-length-3
 same-length-3 c = search needs
@@ -74,38 +57,12 @@ same-length-4 c = search needs
 same-length-5 : tie.Need-same-length-5
 same-length-5 c = search needs
 
-same-length-6 : tie.Need-same-length-6
-same-length-6 c = search needs
-
-same-length-7 : tie.Need-same-length-7
-same-length-7 c = search needs
-
-same-length-8 : tie.Need-same-length-8
-same-length-8 c = search needs
-
-same-length-9 : tie.Need-same-length-9
-same-length-9 c = search needs
-
-same-length-10 : tie.Need-same-length-10
-same-length-10 c = search needs
-
-same-length-11 : tie.Need-same-length-11
-same-length-11 c = search needs
-
 returns-2 : tie.Need-returns-2
 returns-2 c =
-    let g = c .before .before .before .before .before .before .before .before .before .before .before .before .before .before .before
-    .before .before .before .before .before .before .before .before .before .before .before .before .before .before .before .before .before
-    .before .before .before .before .before .before .before .before .before .before .before .before .before .before .before .before .before
-    .args in
+    let g = c .before .before .before .before .before .before .before .before .before .before .before .before .before .before .before .before .before .before .before .before .before .before .before .args in
     gave-same
-    (line-of-faces (g .t) (g .conn .now) (g .xs .now) (c .before .before .before .before .before .before .before .before .before .before
-    .before .before .before .before .before .before .before .before .before .before .before .before .before .before .before .before .before
-    .before .before .before .before .before .before .read-space-cell .ensures) (c .before .before .before .before .before .before .before
-    .before .before .before .before .before .before .before .before .before .before .before .before .before .before .before .before .before
-    .before .before .before .corners .given .1) (g .origin .now) (g .direction .now) (g .tol) (length (g .numbers .now)))
-    (c .before .before .before .before .before .before .before .before .before .before .before .before .before .before .before .before
-    .line-faces .ensures)
+    (cut-of-faces (g .t) (g .conn .now) (g .xs .now) (c .before .before .before .before .before .before .before .before .before .before .before .before .before .before .before .read-space-cell .ensures) (c .before .before .before .before .before .before .before .before .before .corners .given .1) (placing (g .by)) (g .tol) (length (g .numbers .now)))
+    (c .before .before .before .before .line-faces .ensures)
 
 pub line-within-spec : {M : Type 1} → statement M
 line-within-spec =
@@ -123,10 +80,4 @@ line-within-spec =
     same-length-3
     same-length-4
     same-length-5
-    same-length-6
-    same-length-7
-    same-length-8
-    same-length-9
-    same-length-10
-    same-length-11
     returns-2)

@@ -1,11 +1,15 @@
 -- `section_cell_by_plane` meets its contract. Assumes nothing.
-use mathlib.Core.Path.{ap}
+use mathlib.Core.Path.{_∙_, ap, sym}
 use lib.ListN.{length}
 use Rattle.entries.specs.Entries.{planeCut}
+use Rattle.section.specs.Code.{cellCut}
 use Rattle.section.proofs.Outcomes.{gave-same}
 use borrow.Author.Needs.{needs}
 use Rattle.section.proofs.section_cell_by_plane.Statement.{statement}
 use Rattle.section.proofs.section_cell_by_plane.Tie as tie
+
+place-requires : tie.Need-place-requires
+place-requires c κs = search needs
 
 section-phed-requires : tie.Need-section-phed-requires
 section-phed-requires c κs = search needs
@@ -21,11 +25,10 @@ same-length-3 c = search needs
 
 returns : tie.Need-returns
 returns c =
-    let g = c .before .before .before .before .before .before .before .before .before .before .before .before .before .before .before
-    .before .before .before .args in
-    gave-same (ap (λ t. planeCut t (g .conn .now) (g .xs .now) (g .origin .now) (g .normal .now) (g .tol) (length (g .numbers .now)) (length
-    (g .nodes .now)) (length (g .ends .now))) (c .before .before .before .before .before .before .before .before .before .before .if1
-    .taken)) (c .before .before .before .before .before .before .section-phed .ensures)
+    let g = c .before .before .before .before .before .before .before .before .before .before .before .before .before .before .before .before .before .before .before .args in
+    gave-same
+    (ap (λ t. planeCut t (g .conn .now) (g .xs .now) (g .origin .now) (g .normal .now) (g .tol) (length (g .numbers .now)) (length (g .nodes .now)) (length (g .ends .now))) (c .before .before .before .before .before .before .before .before .before .before .if1 .taken) ∙ ap (λ p. cellCut p 18 (g .conn .now) (g .xs .now) (g .tol) (length (g .numbers .now)) (length (g .nodes .now)) (length (g .ends .now))) (sym (c .before .before .before .before .before .before .before .before .before .before .before .place .ensures)))
+    (c .before .before .before .before .before .before .section-phed .ensures)
 
 section-fixed-requires : tie.Need-section-fixed-requires
 section-fixed-requires c κs = search needs
@@ -40,12 +43,15 @@ same-length-6 : tie.Need-same-length-6
 same-length-6 c = search needs
 
 returns-2 : tie.Need-returns-2
-returns-2 c = search needs
+returns-2 c =
+    let g = c .before .before .before .before .before .before .before .before .before .before .before .before .before .before .before .before .before .before .before .args in
+    gave-same (ap (λ p. cellCut p (g .t) (g .conn .now) (g .xs .now) (g .tol) (length (g .numbers .now)) (length (g .nodes .now)) (length (g .ends .now))) (sym (c .before .before .before .before .before .before .before .before .before .before .before .place .ensures))) (c .before .before .before .before .before .before .section-fixed .ensures)
 
 pub section-cell-by-plane-spec : {M : Type 1} → statement M
 section-cell-by-plane-spec =
     tie.close
     (tie.spec
+    place-requires
     section-phed-requires
     same-length
     same-length-2

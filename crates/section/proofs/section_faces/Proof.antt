@@ -1,34 +1,38 @@
 -- `section_faces` meets its contract. Assumes nothing.
-use mathlib.Core.Path.{_∙_, ap, sym}
-use lib.ListN.{length}
-use Rattle.clip.specs.Cell.{facesOf}
-use Rattle.entries.specs.Outcome.{andThen}
-use Rattle.entries.specs.Entries.{sectionIn}
-use Rattle.entries.specs.Code.{placing}
-use Rattle.section.proofs.Outcomes.{gave-refusal, gave-same}
+use mathlib.Core.Path.{_∙_, subst, sym}
+use borrow.Author.Tests.{not-true, not-false}
+use Rattle.entries.specs.Code.{FacesRead}
+use Rattle.entries.proofs.Reading.{fixed-read}
+use Rattle.entries.proofs.Refusals.{test-failed, test-passed}
+use Rattle.section.proofs.Outcomes.{gave-refusal, gave-section, roomy}
+use Rattle.section.proofs.Reading.{placed-on, unplaced}
 use borrow.Author.Needs.{needs}
 use Rattle.section.proofs.section_faces.Statement.{statement}
 use Rattle.section.proofs.section_faces.Tie as tie
 
-place-requires : tie.Need-place-requires
-place-requires c κs = search needs
+enum-known-by : tie.Need-enum-known-by
+enum-known-by c = search needs
 
-enum-known-k : tie.Need-enum-known-k
-enum-known-k c = search needs
+enum-known-by-2 : tie.Need-enum-known-by-2
+enum-known-by-2 c = search needs
 
-enum-known-plane : tie.Need-enum-known-plane
-enum-known-plane c = search needs
+mul-room : tie.Need-mul-room
+mul-room c = search needs
 
-section-on-requires : tie.Need-section-on-requires
-section-on-requires c κs = search needs
+mul-room-2 : tie.Need-mul-room-2
+mul-room-2 c = search needs
+
+room-requires : tie.Need-room-requires
+room-requires c κs = search needs
 
 returns : tie.Need-returns
-returns c =
-    let g = c .before .before .before .before .before .before .before .before .before .before .before .before .before .before .args in
-    let next =
-    sectionIn (g .tol) (g .m) (length (g .numbers .now)) (length (g .nodes .now)) (length (g .ends .now)) (facesOf 3 (g .stops .now) (g
-    .coords .now)) in
-    gave-refusal _ _ _ (ap (λ o. andThen o next) (sym (c .before .before .before .place .ensures) ∙ ap placing (c .before .k .given .1)))
+returns c = gave-refusal _ _ _ (placed-on _ (c .before .before .before .by2 .given .1) (test-failed 7 _ _ (sym (c .before .room .ensures) ∙ not-true _ (c .if1 .taken))))
+
+stitch-phed-requires : tie.Need-stitch-phed-requires
+stitch-phed-requires c κs =
+    let s = c .before .before .before .before .before .before .before .before .before .before .before .before .before .before in
+    let g = s .args in
+    (subst (λ t. FacesRead t (g .m) (g .stops .now) (g .coords .now)) (c .before .before .before .if2 .taken) (s .pre), roomy _ _ _ _ (sym (c .before .before .before .before .before .room .ensures) ∙ not-false _ (c .before .before .before .before .if1 .left)))
 
 same-length : tie.Need-same-length
 same-length c = search needs
@@ -39,6 +43,15 @@ same-length-2 c = search needs
 same-length-3 : tie.Need-same-length-3
 same-length-3 c = search needs
 
+returns-2 : tie.Need-returns-2
+returns-2 c = gave-section (placed-on _ (c .before .before .before .before .before .before .before .before .before .before .before .before .before .before .by2 .given .1) (test-passed 7 _ _ (sym (c .before .before .before .before .before .before .before .before .before .before .before .before .room .ensures) ∙ not-false _ (c .before .before .before .before .before .before .before .before .before .before .before .if1 .left)))) (c .before .before .before .before .before .before .stitch-phed .ensures)
+
+stitch-fixed-requires : tie.Need-stitch-fixed-requires
+stitch-fixed-requires c κs = (fixed-read (c .before .before .before .if2 .left) (c .before .before .before .before .before .before .before .before .before .before .before .before .before .before .pre), roomy _ _ _ _ (sym (c .before .before .before .before .before .room .ensures) ∙ not-false _ (c .before .before .before .before .if1 .left)))
+
+returns-3 : tie.Need-returns-3
+returns-3 c = gave-refusal _ _ _ (unplaced _ (c .before .by .given .1))
+
 same-length-4 : tie.Need-same-length-4
 same-length-4 c = search needs
 
@@ -48,33 +61,27 @@ same-length-5 c = search needs
 same-length-6 : tie.Need-same-length-6
 same-length-6 c = search needs
 
-returns-2 : tie.Need-returns-2
-returns-2 c =
-    let g = c .before .before .before .before .before .before .before .before .before .before .before .before .before .before .before
-    .before .before .before .before .before .before .before .before .before .before .before .before .before .before .before .before .before
-    .before .args in
-    let next =
-    sectionIn (g .tol) (g .m) (length (g .numbers .now)) (length (g .nodes .now)) (length (g .ends .now)) (facesOf 3 (g .stops .now) (g
-    .coords .now)) in
-    gave-same (ap (λ o. andThen o next) (sym (c .before .before .before .before .before .before .before .before .before .before .before
-    .before .before .before .before .before .before .before .before .before .before .before .place .ensures) ∙ ap placing (c .before .before
-    .before .before .before .before .before .before .before .before .before .before .before .before .before .before .before .before .before
-    .before .plane .given .1))) (c .before .before .before .before .before .before .before .before .before .before .before .before
-    .section-on .ensures)
+returns-4 : tie.Need-returns-4
+returns-4 c = gave-section (placed-on _ (c .before .before .before .before .before .before .before .before .before .before .before .before .before .before .by2 .given .1) (test-passed 7 _ _ (sym (c .before .before .before .before .before .before .before .before .before .before .before .before .room .ensures) ∙ not-false _ (c .before .before .before .before .before .before .before .before .before .before .before .if1 .left)))) (c .before .before .before .before .before .before .stitch-fixed .ensures)
 
 pub section-faces-spec : {M : Type 1} → statement M
 section-faces-spec =
     tie.close
     (tie.spec
-    place-requires
-    enum-known-k
-    enum-known-plane
-    section-on-requires
+    enum-known-by
+    enum-known-by-2
+    mul-room
+    mul-room-2
+    room-requires
     returns
+    stitch-phed-requires
     same-length
     same-length-2
     same-length-3
+    returns-2
+    stitch-fixed-requires
+    returns-3
     same-length-4
     same-length-5
     same-length-6
-    returns-2)
+    returns-4)

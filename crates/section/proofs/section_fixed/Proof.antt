@@ -1,5 +1,6 @@
 -- `section_fixed` meets its contract. Assumes nothing.
-use Rattle.entries.proofs.Reading.{fixed-scratch}
+use native.Mathlib.Omega.{arith}
+use borrow.Author.Tests.{ne-eqb}
 use borrow.Author.Needs.{needs}
 use Rattle.section.proofs.section_fixed.Statement.{statement}
 use Rattle.section.proofs.section_fixed.Tie as tie
@@ -10,19 +11,8 @@ slice-aggregate-section-within c = search needs
 slice-aggregate-section-within-2 : tie.Need-slice-aggregate-section-within-2
 slice-aggregate-section-within-2 c = search needs
 
-slice-aggregate-section-within-3 : tie.Need-slice-aggregate-section-within-3
-slice-aggregate-section-within-3 c = search needs
-
-slice-aggregate-section-within-4 : tie.Need-slice-aggregate-section-within-4
-slice-aggregate-section-within-4 c = search needs
-
-slice-aggregate-section-within-5 : tie.Need-slice-aggregate-section-within-5
-slice-aggregate-section-within-5 c = search needs
-
 section-within-requires : tie.Need-section-within-requires
-section-within-requires c κs =
-    fixed-scratch (c .before .before .before .before .before .before .before .before .before .before .before .before .before .before .before
-    .pre) (search needs)
+section-within-requires c κs = rw (ne-eqb _ 18 (c .before .before .before .before .before .before .before .before .before .before .pre)) (omega arith, omega arith)
 
 same-length : tie.Need-same-length
 same-length c = search needs
@@ -42,9 +32,6 @@ section-fixed-spec =
     (tie.spec
     slice-aggregate-section-within
     slice-aggregate-section-within-2
-    slice-aggregate-section-within-3
-    slice-aggregate-section-within-4
-    slice-aggregate-section-within-5
     section-within-requires
     same-length
     same-length-2

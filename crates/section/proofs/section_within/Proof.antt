@@ -2,8 +2,9 @@
 use mathlib.Core.Path.{sym}
 use native.Mathlib.Omega.{arith}
 use lib.Seq.{length-take-le}
-use Rattle.section.proofs.Outcomes.{gave-refusal, gave-same}
+use Rattle.entries.specs.Code.{placing}
 use Rattle.entries.proofs.Reading.{faces-few, ready, was-refused}
+use Rattle.section.proofs.Outcomes.{gave-refusal, gave-same}
 use Rattle.section.proofs.Reading.{cut-of-faces, cut-refused}
 use borrow.Author.Needs.{needs}
 use Rattle.section.proofs.section_within.Statement.{statement}
@@ -20,30 +21,19 @@ enum-known-corners c = search needs
 
 slice-reshare-prefix-section-faces : tie.Need-slice-reshare-prefix-section-faces
 slice-reshare-prefix-section-faces c =
-    let g = c .before .before .before .before .before .before .before .before .before .before .before .before .before .before .before
-    .before .before .before .before .before .before .before .before .args in
-    faces-few (g .t) (g .conn .now) (g .xs .now) (c .before .before .before .before .before .before .before .before .read-space-cell
-    .ensures) (c .before .before .corners .given .1)
+    let g = c .before .before .before .before .before .before .before .before .before .before .before .before .before .before .before .before .before .before .args in
+    faces-few (g .t) (g .conn .now) (g .xs .now) (c .before .before .before .before .before .before .before .before .read-space-cell .ensures) (c .before .before .corners .given .1)
 
 slice-aggregate-section-faces : tie.Need-slice-aggregate-section-faces
 slice-aggregate-section-faces c =
-    let g = c .before .before .before .before .before .before .before .before .before .before .before .before .before .before .before
-    .before .before .before .before .before .before .before .before .before .args in
-    sym (length-take-le _ _ (faces-few (g .t) (g .conn .now) (g .xs .now) (c .before .before .before .before .before .before .before .before
-    .before .read-space-cell .ensures) (c .before .before .before .corners .given .1)))
+    let g = c .before .before .before .before .before .before .before .before .before .before .before .before .before .before .before .before .before .before .before .args in
+    sym (length-take-le _ _ (faces-few (g .t) (g .conn .now) (g .xs .now) (c .before .before .before .before .before .before .before .before .before .read-space-cell .ensures) (c .before .before .before .corners .given .1)))
 
 section-faces-requires : tie.Need-section-faces-requires
 section-faces-requires c κs =
-    let s = c .before .before .before .before .before .before .before .before .before .before .before .before .before .before .before
-    .before .before .before .before .before .before .before .before .before .before .before .before .before .before .before in
+    let s = c .before .before .before .before .before .before .before .before .before .before .before .before .before .before .before .before .before .before .before .before .before .before in
     let g = s .args in
-    ready (g .t) (g .conn .now) (g .xs .now) (c .before .before .before .before .before .before .before .before .before .before .before
-    .before .before .before .before .read-space-cell .ensures) (c .before .before .before .before .before .before .before .before .before
-    .corners .given .1) (s .pre) (omega (
-      arith,
-      c .before .before .before .before .before .before .before .before .before .before .before
-          .before .before .before .before .read-space-cell .kept .1 .1 .1 .0,
-    ))
+    ready (g .t) (g .conn .now) (g .xs .now) (c .before .before .before .before .before .before .before .before .before .before .before .before .read-space-cell .ensures) (c .before .before .before .before .before .before .corners .given .1) (s .pre .0) (omega (arith, c .before .before .before .before .before .before .before .before .before .before .before .before .read-space-cell .kept .1 .1 .1 .0))
 
 same-length : tie.Need-same-length
 same-length c = search needs
@@ -53,11 +43,9 @@ same-length-2 c = search needs
 
 returns : tie.Need-returns
 returns c =
-    let g = c .before .before .before .before .before .before .before .before .before .before .before .before .before .before .before
-    .before .before .before .before .before .before .before .args in
+    let g = c .before .before .before .before .before .before .before .before .before .before .before .before .before .before .before .before .before .args in
     gave-refusal _ _ _
-    (cut-refused (g .t) (g .conn .now) (g .xs .now) (g .origin .now) (g .normal .now) (g .tol) _ _ _
-    (was-refused (c .before .before .before .before .before .before .before .read-space-cell .ensures) (c .before .k .given .1)))
+    (cut-refused (placing (g .by)) (g .t) (g .conn .now) (g .xs .now) (g .tol) _ _ _ (was-refused (c .before .before .before .before .before .before .before .read-space-cell .ensures) (c .before .k .given .1)))
 
 same-length-3 : tie.Need-same-length-3
 same-length-3 c = search needs
@@ -74,27 +62,12 @@ same-length-6 c = search needs
 same-length-7 : tie.Need-same-length-7
 same-length-7 c = search needs
 
-same-length-8 : tie.Need-same-length-8
-same-length-8 c = search needs
-
-same-length-9 : tie.Need-same-length-9
-same-length-9 c = search needs
-
-same-length-10 : tie.Need-same-length-10
-same-length-10 c = search needs
-
 returns-2 : tie.Need-returns-2
 returns-2 c =
-    let g = c .before .before .before .before .before .before .before .before .before .before .before .before .before .before .before
-    .before .before .before .before .before .before .before .before .before .before .before .before .before .before .before .before .before
-    .before .before .before .before .before .before .before .before .before .before .before .args in
+    let g = c .before .before .before .before .before .before .before .before .before .before .before .before .before .before .before .before .before .before .before .before .before .before .before .before .before .before .before .before .before .args in
     gave-same
-    (cut-of-faces (g .t) (g .conn .now) (g .xs .now) (c .before .before .before .before .before .before .before .before .before .before
-    .before .before .before .before .before .before .before .before .before .before .before .before .before .before .before .before .before
-    .before .read-space-cell .ensures) (c .before .before .before .before .before .before .before .before .before .before .before .before
-    .before .before .before .before .before .before .before .before .before .before .corners .given .1) (g .origin .now) (g .normal .now) (g
-    .tol) _ _ _)
-    (c .before .before .before .before .before .before .before .before .before .before .before .before .section-faces .ensures)
+    (cut-of-faces (g .t) (g .conn .now) (g .xs .now) (c .before .before .before .before .before .before .before .before .before .before .before .before .before .before .before .before .before .before .before .read-space-cell .ensures) (c .before .before .before .before .before .before .before .before .before .before .before .before .before .corners .given .1) (placing (g .by)) (g .tol) _ _ _)
+    (c .before .before .before .before .before .before .section-faces .ensures)
 
 pub section-within-spec : {M : Type 1} → statement M
 section-within-spec =
@@ -114,7 +87,4 @@ section-within-spec =
     same-length-5
     same-length-6
     same-length-7
-    same-length-8
-    same-length-9
-    same-length-10
     returns-2)

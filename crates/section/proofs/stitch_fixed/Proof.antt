@@ -1,0 +1,45 @@
+-- `stitch_fixed` meets its contract. Assumes nothing.
+use native.Mathlib.Omega.{arith}
+use borrow.Author.Needs.{needs}
+use Rattle.section.proofs.stitch_fixed.Statement.{statement}
+use Rattle.section.proofs.stitch_fixed.Tie as tie
+
+slice-aggregate-stitch-faces : tie.Need-slice-aggregate-stitch-faces
+slice-aggregate-stitch-faces c = search needs
+
+slice-aggregate-stitch-faces-2 : tie.Need-slice-aggregate-stitch-faces-2
+slice-aggregate-stitch-faces-2 c = search needs
+
+slice-aggregate-stitch-faces-3 : tie.Need-slice-aggregate-stitch-faces-3
+slice-aggregate-stitch-faces-3 c = search needs
+
+stitch-faces-requires : tie.Need-stitch-faces-requires
+stitch-faces-requires c κs =
+    let h = c .before .before .before .before .before .before .before .before .before .before .before .pre .0 in
+    let n = h .few in
+    (record { few = omega arith; fit = h .fit; for-corners = h .for-corners; for-segments = omega arith }, c .before .before .before .before .before .before .before .before .before .before .before .pre .1)
+
+same-length : tie.Need-same-length
+same-length c = search needs
+
+same-length-2 : tie.Need-same-length-2
+same-length-2 c = search needs
+
+same-length-3 : tie.Need-same-length-3
+same-length-3 c = search needs
+
+returns : tie.Need-returns
+returns c = search needs
+
+pub stitch-fixed-spec : {M : Type 1} → statement M
+stitch-fixed-spec =
+    tie.close
+    (tie.spec
+    slice-aggregate-stitch-faces
+    slice-aggregate-stitch-faces-2
+    slice-aggregate-stitch-faces-3
+    stitch-faces-requires
+    same-length
+    same-length-2
+    same-length-3
+    returns)
