@@ -10,7 +10,7 @@ use borrow.Author.Tests.{eqb-false}
 use lib.Dec.{T, eqb, ltb, ltb→lt}
 use lib.Ieee.{Float}
 use lib.Ieee.Fits.{and-l, and-r}
-use lib.ListN.{length, getD, take, drop, length-append, length-map}
+use lib.ListN.{length, getD, take, drop, length-append}
 use lib.Seq.{drop-drop, take-at, drop-at}
 use Rattle.vector.specs.Rows.{rows, endsFrom, over}
 use Rattle.cell.specs.Types.{allow, spaceNumber, spaceType, spaceNodes, shapeOf}

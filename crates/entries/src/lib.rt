@@ -1,8 +1,5 @@
 // What the entries of document 01 are, as equations over every input: a cell cut by a plane or by a line, in space and
 // in the plane, stitching alone, and the tolerance. And what two of them share: the section of faces by a plane.
-ghost use mathlib.Core.Path.{_≡_};
-ghost use Prim.Native.Nat.{_*_, _/_, _≤_};
-ghost use lib.ListN.{length};
 ghost use Rattle.vector.specs.View.{frameOf};
 ghost use Rattle.clip.specs.Cell.{facesOf};
 ghost use Rattle.stitch.specs.Code.{Gave as Answered};

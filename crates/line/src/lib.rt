@@ -1,7 +1,7 @@
 // A cell in space cut by a line. The answer is segments only.
 ghost use mathlib.Core.Path.{_≡_};
 ghost use mathlib.Core.List.{_++_, map};
-ghost use Prim.Native.Nat.{_*_, _+_, _<_, _≤_};
+ghost use Prim.Native.Nat.{_*_, _+_, _≤_};
 ghost use lib.ListN.{length};
 ghost use Rattle.vector.specs.Vector.{lineOf};
 ghost use Rattle.vector.specs.View.{frameOf, vec2, vec3};

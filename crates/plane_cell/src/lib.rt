@@ -1,6 +1,6 @@
 // A cell in the plane cut by a line, by its normal or by its direction. The answer is segments only.
 ghost use mathlib.Core.Path.{_≡_};
-ghost use Prim.Native.Nat.{_*_, _<_, _≤_};
+ghost use Prim.Native.Nat.{_*_, _≤_};
 ghost use lib.ListN.{length};
 ghost use Rattle.vector.specs.Vector.{normalAlong, unit};
 ghost use Rattle.vector.specs.View.{unit2, vec2};

@@ -1,7 +1,7 @@
 // A cell cut by a plane, stitching alone, and the tolerance: the entries with a section or a number as their answer.
 ghost use mathlib.Core.Path.{_≡_};
-ghost use Prim.Native.Nat.{_*_, _/_, _<_, _≤_};
-ghost use lib.ListN.{length, take};
+ghost use Prim.Native.Nat.{_*_, _≤_};
+ghost use lib.ListN.{length};
 ghost use Rattle.vector.specs.Vector.{planeOf};
 ghost use Rattle.vector.specs.View.{frameOf};
 ghost use Rattle.cell.specs.Read.{facesMost, spaceMost};

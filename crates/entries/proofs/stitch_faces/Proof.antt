@@ -1,7 +1,7 @@
 -- `stitch_faces` meets its contract. Assumes nothing.
 use lib.ListN.{length}
 use Rattle.vector.specs.View.{frameOf}
-use Rattle.clip.specs.Cell.{cutBy}
+use Rattle.clip.specs.Cell.{cellSegments, cutBy, facesOf}
 use Rattle.entries.proofs.Stitching.{few-segments, lent}
 use borrow.Author.Needs.{needs}
 use Rattle.entries.proofs.stitch_faces.Statement.{statement}
@@ -16,27 +16,31 @@ stitch-segments-requires c κs =
     .before .before .before .before .before .before .before in
     let g = s .args in
     let f = frameOf (g .plane) in
-    lent (s .pre .0) (s .pre .1) (c .before .before .before .before .before .before .before .before .before .before .cell-segments .ensures)
+    lent {ss = cellSegments (cutBy f (g .tol)) f (facesOf 3 (g .stops .now) (g .coords .now))} (s .pre .0) (s .pre .1) (c .before .before
+    .before .before .before .before .before .before .before .before .cell-segments .ensures)
     (few-segments (cutBy f (g .tol)) f (g .stops .now) (g .coords .now) (g .m) (length (g .points .now)) (length (g .space .now)) (s .pre .0
     .fit)) (search needs)
 
 same-length : tie.Need-same-length
-same-length c = search needs
+same-length c = c .before .before .before .before .before .before .before .before .before .before .before .before .before .before .before
+    .before .before .cell-segments .kept .1 .1 .1 .1 .1 .0
 
 same-length-2 : tie.Need-same-length-2
-same-length-2 c = search needs
+same-length-2 c = c .before .before .before .before .before .before .before .before .before .before .before .before .before .before .before
+    .before .before .cell-segments .kept .1 .1 .1 .1 .1 .1 .0
 
 same-length-3 : tie.Need-same-length-3
-same-length-3 c = search needs
+same-length-3 c = c .before .before .before .before .before .before .before .before .before .before .before .before .before .before .before
+    .before .before .cell-segments .kept .1 .1 .1 .1 .1 .1 .1 .0
 
 same-length-4 : tie.Need-same-length-4
-same-length-4 c = search needs
+same-length-4 c = c .before .before .before .before .before .before .stitch-segments .kept .1 .1 .1 .0
 
 same-length-5 : tie.Need-same-length-5
-same-length-5 c = search needs
+same-length-5 c = c .before .before .before .before .before .before .stitch-segments .kept .1 .1 .1 .1 .0
 
 same-length-6 : tie.Need-same-length-6
-same-length-6 c = search needs
+same-length-6 c = c .before .before .before .before .before .before .stitch-segments .kept .1 .1 .1 .1 .1 .0
 
 returns : tie.Need-returns
 returns c = rw (← c .before .before .before .before .before .before .before .before .before .before .before .before .before .before .before

@@ -34,16 +34,17 @@ put-on-line-requires c κs =
     (omega (arith, c .before .before .before .before .before .before .plane-section-segments .kept .1 .1 .1 .0), omega (arith, s .pre .1))
 
 same-length : tie.Need-same-length
-same-length c = search needs
+same-length c = c .before .before .before .before .before .before .before .before .before .before .before .before .before .before .before
+    .before .loop-points .kept .1 .1 .1 .0
 
 same-length-2 : tie.Need-same-length-2
-same-length-2 c = search needs
+same-length-2 c = c .before .before .before .before .before .before .before .before .before .plane-section-segments .kept .1 .1 .1 .0
 
 same-length-3 : tie.Need-same-length-3
-same-length-3 c = search needs
+same-length-3 c = c .before .before .before .before .before .before .before .before .before .plane-section-segments .kept .1 .1 .1 .1 .0
 
 same-length-4 : tie.Need-same-length-4
-same-length-4 c = search needs
+same-length-4 c = c .before .before .put-on-line .kept .1 .1 .1 .0
 
 returns : tie.Need-returns
 returns c =

@@ -15,10 +15,10 @@ line-within-requires : tie.Need-line-within-requires
 line-within-requires c κs = rw (ne-eqb _ 18 (c .before .before .before .before .before .before .pre)) (omega arith, omega arith)
 
 same-length : tie.Need-same-length
-same-length c = search needs
+same-length c = c .before .before .before .before .line-within .kept .1 .1 .1 .1 .1 .0
 
 returns : tie.Need-returns
-returns c = search needs
+returns c = c .before .before .before .before .line-within .ensures
 
 pub line-fixed-spec : {M : Type 1} → statement M
 line-fixed-spec =

@@ -1,7 +1,9 @@
 -- `line_section` meets its contract. Assumes nothing.
-use mathlib.Core.Path.{sym}
+use mathlib.Core.Path.{_∙_, sym}
 use lib.Seq.{length-take-le}
 use Rattle.vector.specs.View.{frameOf}
+use Rattle.clip.specs.Cell.{facesOf}
+use Rattle.entries.specs.Entries.{sectionOf}
 use Rattle.entries.proofs.Answers.{segments-same}
 use Rattle.line.proofs.Sections.{ends-there, line-of, loops-ready, nodes-there}
 use borrow.Author.Needs.{needs}
@@ -38,37 +40,52 @@ cut-loops-requires c κs =
     (one .kept .1 .1 .1 .1 .1 .1 .1 .1 .0) (one .kept .1 .1 .1 .1 .1 .1 .1 .0) (one .kept .1 .1 .1 .1 .1 .1 .0)
 
 same-length : tie.Need-same-length
-same-length c = search needs
+same-length c = c .before .before .before .before .before .before .before .before .cut-loops .kept .1 .1 .1 .1 .1 .1 .1 .1 .1 .0
 
 same-length-2 : tie.Need-same-length-2
-same-length-2 c = search needs
+same-length-2 c = c .before .before .before .before .before .before .before .before .cut-loops .kept .1 .1 .1 .1 .1 .1 .0
 
 same-length-3 : tie.Need-same-length-3
-same-length-3 c = search needs
+same-length-3 c = c .before .before .before .before .before .before .before .before .before .before .before .before .before .before .before
+    .before .before .before .before .before .before .before .before .before .before .before .before .before .stitch-faces .kept .1 .1 .1 .1
+    .1 .0
 
 same-length-4 : tie.Need-same-length-4
-same-length-4 c = search needs
+same-length-4 c = c .before .before .before .before .before .before .before .before .cut-loops .kept .1 .1 .1 .1 .1 .1 .1 .1 .0 ∙ c .before
+    .before .before .before .before .before .before .before .before .before .before .before .before .before .before .before .before .before
+    .before .before .before .before .before .before .before .before .before .before .stitch-faces .kept .1 .1 .1 .1 .1 .1 .0
 
 same-length-5 : tie.Need-same-length-5
-same-length-5 c = search needs
+same-length-5 c = c .before .before .before .before .before .before .before .before .cut-loops .kept .1 .1 .1 .1 .1 .1 .1 .0 ∙ c .before
+    .before .before .before .before .before .before .before .before .before .before .before .before .before .before .before .before .before
+    .before .before .before .before .before .before .before .before .before .before .stitch-faces .kept .1 .1 .1 .1 .1 .1 .1 .0
 
 same-length-6 : tie.Need-same-length-6
-same-length-6 c = search needs
+same-length-6 c = c .before .before .before .before .before .before .before .before .before .before .before .before .before .before .before
+    .before .before .before .before .before .before .before .before .before .before .before .before .before .stitch-faces .kept .1 .1 .1 .1
+    .1 .1 .1 .1 .0
 
 same-length-7 : tie.Need-same-length-7
-same-length-7 c = search needs
+same-length-7 c = c .before .before .before .before .before .before .before .before .before .before .before .before .before .before .before
+    .before .before .before .before .before .before .before .before .before .before .before .before .before .stitch-faces .kept .1 .1 .1 .1
+    .1 .1 .1 .1 .1 .0
 
 same-length-8 : tie.Need-same-length-8
-same-length-8 c = search needs
+same-length-8 c = c .before .before .before .before .before .before .before .before .before .before .before .before .before .before .before
+    .before .before .before .before .before .before .before .before .before .before .before .before .before .stitch-faces .kept .1 .1 .1 .1
+    .1 .1 .1 .1 .1 .1 .0
 
 returns : tie.Need-returns
 returns c =
     let g = c .before .before .before .before .before .before .before .before .before .before .before .before .before .before .before
     .before .before .before .before .before .before .before .before .before .before .before .before .before .before .before .before .before
     .before .before .before .before .before .before .before .before .before .before .before .before .before .args in
-    segments-same (line-of (c .before .before .before .before .before .before .before .before .before .before .before .before .before
-    .before .before .before .before .before .before .before .before .before .before .before .before .before .before .before .stitch-faces
-    .ensures) (frameOf (g .plane)) (g .tol)) (c .before .before .before .before .before .before .before .before .cut-loops .ensures)
+    let f = frameOf (g .plane) in
+    segments-same
+    (line-of {a = sectionOf f (g .tol) (facesOf 3 (g .stops .now) (g .coords .now))} (c .before .before .before .before .before .before
+    .before .before .before .before .before .before .before .before .before .before .before .before .before .before .before .before .before
+    .before .before .before .before .before .stitch-faces .ensures) f (g .tol))
+    (c .before .before .before .before .before .before .before .before .cut-loops .ensures)
 
 pub line-section-spec : {M : Type 1} → statement M
 line-section-spec =

@@ -29,7 +29,13 @@ line-section-requires c κs =
     let h = s .pre .0 in
     let n = h .few in (
       record {
-        faces = record { few = omega arith; fit = fit-wider 0 (s .args .stops .now) (s .args .m) 18 36 18 216 (omega arith) (omega arith) (h .fit); for-corners = h .for-corners; for-segments = omega arith };
+        faces = record {
+          few = omega arith;
+          fit = fit-wider 0 (s .args .stops .now) (s .args .m) 18 36 18 216 (omega arith) (omega arith) (h
+              .fit);
+          for-corners = h .for-corners;
+          for-segments = omega arith;
+        };
         for-flat = omega arith;
       },
       record { for-numbers = omega arith; for-nodes = omega arith; for-ends = omega arith },
@@ -37,13 +43,13 @@ line-section-requires c κs =
     )
 
 same-length : tie.Need-same-length
-same-length c = search needs
+same-length c = c .before .before .before .before .before .before .before .before .before .before .line-section .kept .1 .1 .1 .1 .0
 
 same-length-2 : tie.Need-same-length-2
-same-length-2 c = search needs
+same-length-2 c = c .before .before .before .before .before .before .before .before .before .before .line-section .kept .1 .1 .1 .1 .1 .0
 
 returns : tie.Need-returns
-returns c = search needs
+returns c = c .before .before .before .before .before .before .before .before .before .before .line-section .ensures
 
 pub section-fixed-spec : {M : Type 1} → statement M
 section-fixed-spec =

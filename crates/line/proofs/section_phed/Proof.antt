@@ -36,13 +36,13 @@ line-section-requires c κs =
     )
 
 same-length : tie.Need-same-length
-same-length c = search needs
+same-length c = c .before .before .before .before .before .before .before .before .before .before .line-section .kept .1 .1 .1 .1 .0
 
 same-length-2 : tie.Need-same-length-2
-same-length-2 c = search needs
+same-length-2 c = c .before .before .before .before .before .before .before .before .before .before .line-section .kept .1 .1 .1 .1 .1 .0
 
 returns : tie.Need-returns
-returns c = search needs
+returns c = c .before .before .before .before .before .before .before .before .before .before .line-section .ensures
 
 pub section-phed-spec : {M : Type 1} → statement M
 section-phed-spec =

@@ -15,10 +15,10 @@ cut-within-requires : tie.Need-cut-within-requires
 cut-within-requires c κs = rw (most-4 _ (c .before .before .before .before .before .before .pre)) (omega arith, omega arith)
 
 same-length : tie.Need-same-length
-same-length c = search needs
+same-length c = c .before .before .before .before .cut-within .kept .1 .1 .1 .1 .1 .1 .0
 
 returns : tie.Need-returns
-returns c = search needs
+returns c = c .before .before .before .before .cut-within .ensures
 
 pub cut-fixed-spec : {M : Type 1} → statement M
 cut-fixed-spec =

@@ -18,10 +18,10 @@ returns : tie.Need-returns
 returns c = gave-refusal _ (unplaced _ _ (c .before .by .given .1))
 
 same-length : tie.Need-same-length
-same-length c = search needs
+same-length c = c .before .before .before .before .cut-by .kept .1 .1 .1 .0
 
 same-length-2 : tie.Need-same-length-2
-same-length-2 c = search needs
+same-length-2 c = c .before .before .before .before .cut-by .kept .1 .1 .1 .1 .0
 
 returns-2 : tie.Need-returns-2
 returns-2 c = gave-same (line-placed _ _ (c .before .before .before .before .before .before .before .before .by2 .given .1)) (c .before

@@ -32,7 +32,7 @@ cut-polygon-requires c κs =
     )
 
 same-length : tie.Need-same-length
-same-length c = search needs
+same-length c = c .before .before .before .before .before .read-plane-cell .kept .1 .1 .1 .0
 
 returns : tie.Need-returns
 returns c =
@@ -42,13 +42,14 @@ returns c =
     (was-refused (c .before .before .before .before .before .read-plane-cell .ensures) (c .before .k .given .1)))
 
 same-length-2 : tie.Need-same-length-2
-same-length-2 c = search needs
+same-length-2 c = c .before .before .before .before .before .before .before .before .before .before .before .before .before .read-plane-cell
+    .kept .1 .1 .1 .0
 
 same-length-3 : tie.Need-same-length-3
-same-length-3 c = search needs
+same-length-3 c = c .before .before .before .before .cut-polygon .kept .1 .1 .1 .0
 
 same-length-4 : tie.Need-same-length-4
-same-length-4 c = search needs
+same-length-4 c = c .before .before .before .before .cut-polygon .kept .1 .1 .1 .1 .0
 
 returns-2 : tie.Need-returns-2
 returns-2 c =

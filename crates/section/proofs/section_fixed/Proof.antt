@@ -12,19 +12,20 @@ slice-aggregate-section-within-2 : tie.Need-slice-aggregate-section-within-2
 slice-aggregate-section-within-2 c = search needs
 
 section-within-requires : tie.Need-section-within-requires
-section-within-requires c κs = rw (ne-eqb _ 18 (c .before .before .before .before .before .before .before .before .before .before .pre)) (omega arith, omega arith)
+section-within-requires c κs = rw (ne-eqb _ 18 (c .before .before .before .before .before .before .before .before .before .before .pre))
+    (omega arith, omega arith)
 
 same-length : tie.Need-same-length
-same-length c = search needs
+same-length c = c .before .before .before .before .before .before .before .before .section-within .kept .1 .1 .1 .1 .1 .1 .1 .0
 
 same-length-2 : tie.Need-same-length-2
-same-length-2 c = search needs
+same-length-2 c = c .before .before .before .before .before .before .before .before .section-within .kept .1 .1 .1 .1 .1 .1 .1 .1 .0
 
 same-length-3 : tie.Need-same-length-3
-same-length-3 c = search needs
+same-length-3 c = c .before .before .before .before .before .before .before .before .section-within .kept .1 .1 .1 .1 .1 .1 .1 .1 .1 .0
 
 returns : tie.Need-returns
-returns c = search needs
+returns c = c .before .before .before .before .before .before .before .before .section-within .ensures
 
 pub section-fixed-spec : {M : Type 1} → statement M
 section-fixed-spec =
