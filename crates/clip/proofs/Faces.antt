@@ -102,21 +102,22 @@ module _ {c : Cut} {f : Frame} {w m p q : ℕ} {es : List ℕ} {ps xs : List Flo
   pub face-space : 6 * atMost (getD es i 0 - s) ≤ q
   face-space = fits .2
 
-  -- the face's corners as they are lent: all numbers from a on
-  pub gathering-step : {a r : ℕ} {ys : List Float} → a ≡ w * s
-      → Segments 2 zs (segs 2 k zs ++ faceSegments c f (rows w (getD es i 0 - s) (take (length ps - a) (drop a ps)))) r ys
+  -- the face's corners as they are lent, all numbers from a on; its o segments are found in a scratch buffer, and then carried
+  pub gathering-step : {a o r : ℕ} {us vs ys : List Float} → a ≡ w * s
+      → Segments w us (planeSectionSegments c (rows w (getD es i 0 - s) (take (length ps - a) (drop a ps)))) o vs
+      → Segments 2 zs (segs 2 k zs ++ map (projectSeg f) (segs w o vs)) r ys
       → length ys ≡ length zs → Gathering c f w m p q es ps xs (i + 1) (getD es i 0) r ys
-  gathering-step {a} {r} {ys} ea g l =
+  gathering-step {a} {o} {r} {us} {vs} {ys} ea found g l =
       let e = getD es i 0 in
       let lent : take (length ps - a) (drop a ps) ≡ drop (w * s) ps =
       take-all (length ps - a) (drop a ps) (omega (arith, length-drop a ps)) ∙ rw ea in
       let qs = rows w (e - s) (drop (w * s) ps) in
-      let got : segs 2 r ys ≡ segs 2 k zs ++ faceSegments c f qs = rw lent at (g .are) in
+      let got : segs 2 r ys ≡ segs 2 k zs ++ faceSegments c f qs = rw lent at (rw (found .are) at (g .are)) in
       let later = cellSegments c f (facesFrom w e (drop (i + 1) es) ps) in
       let n : r ≡ k + length (faceSegments c f qs) =
       sym (segs-length 2 r ys) ∙ ap length got ∙ length-append (segs 2 k zs) (faceSegments c f qs) ∙ rw (segs-length 2 k zs) in
       let b = section-bound c qs in
-      let o = length-map (planeSectionSegments c qs) (projectSeg f) in
+      let same = length-map (planeSectionSegments c qs) (projectSeg f) in
       let count = rows-length w (e - s) (drop (w * s) ps) in
       record {
         total = v .total ∙ rw next (sym (append-assoc (segs 2 k zs) (faceSegments c f qs) later) ∙ rw (← got));

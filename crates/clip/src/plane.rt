@@ -6,7 +6,7 @@ ghost use lib.ListN.{length};
 ghost use Rattle.vector.specs.Rows.{rows, seg, segs};
 ghost use Rattle.vector.specs.View.{vec2};
 ghost use Rattle.clip.specs.Clip.{alike, clipEdge, clipSides, duplicate, edges, liesOn, planeIntersection};
-ghost use Rattle.clip.specs.Clip.{planeSectionSegments, pushAll, pushSegment, pushSegments, pushUnique, sectionOn, withoutClosing};
+ghost use Rattle.clip.specs.Clip.{planeSectionSegments, pushAll, pushSegment, pushSegments, pushUnique, withoutClosing};
 ghost use Rattle.clip.specs.Cell.{atMost};
 ghost use Rattle.clip.specs.Code.{Distances, Points, Segments, Sided};
 ghost use Rattle.clip.specs.View.{cut2, points2};
@@ -60,7 +60,13 @@ pub fn plane_section_segments(
     if sign == 0.0 {
         return 0;
     }
-    section_on(poly, n, cut, sign, points, out)
+    let tol2 = cut.tol * cut.tol;
+    let clipped = clip_polygon(poly, n, cut, sign, tol2, points);
+    let m = without_closing(points, clipped, tol2);
+    if m < 2 {
+        return 0;
+    }
+    segments(points, m, cut, tol2, out)
 }
 
 // The side that holds the polygon's interior: above if any corner is, else below if any is; and neither if the face
@@ -81,29 +87,6 @@ fn kept_side(poly: &[f64], n: usize, cut: Cut, points: &mut [f64]) -> Side
         i += 1;
     }
     side_of(above, below, n, cut.tol)
-}
-
-// The segments of the polygon clipped to the side of this sign, written to out. Gives how many there are.
-fn section_on(
-    poly: &[f64],
-    n: usize,
-    cut: Cut,
-    sign: f64,
-    points: &mut [f64],
-    out: &mut [f64],
-) -> usize
-    requires { ⌜ (0 < n) × (2 * n ≤ length (now poly)) × (2 * atMost n ≤ length (now points))
-        × (4 * atMost n ≤ length (now out)) × Distances (cut2 cut) 2 n (now poly) (now points) ⌝ }
-    ensures { λ r. ⌜ Segments 2 (now (out .entry)) (sectionOn (cut2 cut) sign (rows 2 n (now (poly .entry)))) r
-        (now (out .exit)) ⌝ }
-{
-    let tol2 = cut.tol * cut.tol;
-    let clipped = clip_polygon(poly, n, cut, sign, tol2, points);
-    let m = without_closing(points, clipped, tol2);
-    if m < 2 {
-        return 0;
-    }
-    segments(points, m, cut, tol2, out)
 }
 
 // The clipped points of the polygon, written to points. Gives how many there are. The distances of the corners stand

@@ -6,8 +6,8 @@ ghost use lib.ListN.{length};
 ghost use Rattle.vector.specs.Rows.{rows, seg, segs};
 ghost use Rattle.vector.specs.View.{frameOf, vec3};
 ghost use Rattle.clip.specs.Clip.{alike, clipEdge, clipSides, duplicate, edges, liesOn, planeIntersection};
-ghost use Rattle.clip.specs.Clip.{planeSectionSegments, pushAll, pushSegment, pushSegments, pushUnique, sectionOn, withoutClosing};
-ghost use Rattle.clip.specs.Cell.{atMost, cellSegments, cutBy, faceSegments, facesOf, projectSeg};
+ghost use Rattle.clip.specs.Clip.{planeSectionSegments, pushAll, pushSegment, pushSegments, pushUnique, withoutClosing};
+ghost use Rattle.clip.specs.Cell.{atMost, cellSegments, cutBy, facesOf, projectSeg};
 ghost use Rattle.clip.specs.Code.{Distances, Fit, Points, Segments, Sided};
 ghost use Rattle.clip.specs.View.{cut3, points3};
 use crate::Side;
@@ -57,38 +57,6 @@ pub fn cell_segments(
         (cellSegments (cutBy (frameOf plane) tol) (frameOf plane) (facesOf 3 (now (ends .entry)) (now (coords .entry))))
         r (now (out .exit)) ⌝ }
 {
-    let mut k = 0;
-    let mut s = 0;
-    let mut i = 0;
-    while i < ends.len() {
-        let e = ends[i];
-        let at = 3 * s;
-        k = face_segments(&coords[at..], e - s, plane, tol, points, space, out, k);
-        s = e;
-        i += 1;
-    }
-    k
-}
-
-// One face of a cell: its segments, in the plane's own coordinates, after the `from` in out. Gives how many there
-// are then.
-pub fn face_segments(
-    poly: &[f64],
-    n: usize,
-    plane: Plane,
-    tol: f64,
-    points: &mut [f64],
-    space: &mut [f64],
-    out: &mut [f64],
-    from: usize,
-) -> usize
-    requires { ⌜ (3 * n ≤ length (now poly)) × (3 * atMost n ≤ length (now points))
-        × (6 * atMost n ≤ length (now space)) × (4 * (from + atMost n) ≤ length (now out)) ⌝ }
-    ensures { λ r. ⌜ Segments 2 (now (out .entry))
-        (segs 2 from (now (out .entry))
-        ++ faceSegments (cutBy (frameOf plane) tol) (frameOf plane) (rows 3 n (now (poly .entry))))
-        r (now (out .exit)) ⌝ }
-{
     let origin = plane.origin;
     let normal = plane.normal;
     let cut = Cut {
@@ -96,8 +64,18 @@ pub fn face_segments(
         normal: normal,
         tol: tol,
     };
-    let k = plane_section_segments(poly, n, cut, points, space);
-    project_segments(space, k, plane, out, from)
+    let mut k = 0;
+    let mut s = 0;
+    let mut i = 0;
+    while i < ends.len() {
+        let e = ends[i];
+        let at = 3 * s;
+        let found = plane_section_segments(&coords[at..], e - s, cut, points, space);
+        k = project_segments(space, found, plane, out, k);
+        s = e;
+        i += 1;
+    }
+    k
 }
 
 // Projects k segments into the plane, after the `from` in out. Gives how many there are then.
@@ -141,7 +119,13 @@ pub fn plane_section_segments(
     if sign == 0.0 {
         return 0;
     }
-    section_on(poly, n, cut, sign, points, out)
+    let tol2 = cut.tol * cut.tol;
+    let clipped = clip_polygon(poly, n, cut, sign, tol2, points);
+    let m = without_closing(points, clipped, tol2);
+    if m < 2 {
+        return 0;
+    }
+    segments(points, m, cut, tol2, out)
 }
 
 // The side that holds the polygon's interior: above if any corner is, else below if any is; and neither if the face
@@ -162,29 +146,6 @@ fn kept_side(poly: &[f64], n: usize, cut: Cut, points: &mut [f64]) -> Side
         i += 1;
     }
     side_of(above, below, n, cut.tol)
-}
-
-// The segments of the polygon clipped to the side of this sign, written to out. Gives how many there are.
-fn section_on(
-    poly: &[f64],
-    n: usize,
-    cut: Cut,
-    sign: f64,
-    points: &mut [f64],
-    out: &mut [f64],
-) -> usize
-    requires { ⌜ (0 < n) × (3 * n ≤ length (now poly)) × (3 * atMost n ≤ length (now points))
-        × (6 * atMost n ≤ length (now out)) × Distances (cut3 cut) 3 n (now poly) (now points) ⌝ }
-    ensures { λ r. ⌜ Segments 3 (now (out .entry)) (sectionOn (cut3 cut) sign (rows 3 n (now (poly .entry)))) r
-        (now (out .exit)) ⌝ }
-{
-    let tol2 = cut.tol * cut.tol;
-    let clipped = clip_polygon(poly, n, cut, sign, tol2, points);
-    let m = without_closing(points, clipped, tol2);
-    if m < 2 {
-        return 0;
-    }
-    segments(points, m, cut, tol2, out)
 }
 
 // The clipped points of the polygon, written to points. Gives how many there are. The distances of the corners stand

@@ -119,6 +119,10 @@ pub record Going (n : ℕ) (zs : List Float) (xs ys : List ℕ) (s : ℕ) (w : W
   pub c-in : c < n
   pub along : Along w (remaining (rows 2 n zs) (edgesOf xs ys) m s p c us) m ns
 
+-- what has been walked is said of an equal walk
+pub went-as : {w w′ : Walk} {n e : ℕ} {c : Bool} {us : List Bool} {ns : List ℕ} → w ≡ w′ → Went w′ n e c us ns → Went w n e c us ns
+went-as q h = rw q h
+
 -- the walk from edge k is the whole that leaves its smaller point
 pub walk-is : (ps : List Vector) (xs ys : List ℕ) (k : ℕ) (us : List Bool) → length xs ≡ length ys
     → walkFrom ps (edgesOf xs ys) k us ≡ whole ps (edgesOf xs ys) (getD xs k 0) k (getD ys k 0) (set us k true)

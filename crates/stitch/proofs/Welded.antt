@@ -23,13 +23,10 @@ use Rattle.stitch.proofs.Claim.{claim}
 use Rattle.stitch.proofs.Stitching.{ends-length}
 
 -- fresh marks, as many as there are edges
-pub fresh-part : (n k : ℕ) (us : List Bool) → us ≡ replicate n false → k ≤ n → take k us ≡ replicate k false
-fresh-part n k us e h = ap (take k) e ∙ part n k h
-  where
-    part : (n k : ℕ) → k ≤ n → take k (replicate n false) ≡ replicate k false
-    part n zero h = refl
-    part zero (suc k) h = absurd (not-suc-le-zero h)
-    part (suc n) (suc k) h = ap {B = List Bool} (λ r. false ∷ r) (part n k (le-of-suc-le-suc h))
+fresh-part : (n k : ℕ) → k ≤ n → take k (replicate n false) ≡ replicate k false
+fresh-part n zero h = refl
+fresh-part zero (suc k) h = absurd (not-suc-le-zero h)
+fresh-part (suc n) (suc k) h = ap {B = List Bool} (λ r. false ∷ r) (fresh-part n k (le-of-suc-le-suc h))
 
 -- the points one after another are the numbers that they were read from
 flatten-rows : (n : ℕ) (xs : List Float) → 2 * n ≤ length xs → flatten (rows 2 n xs) ≡ take (2 * n) xs
@@ -73,25 +70,34 @@ claimed : (t : Float) (ss : List Seg) (r : Stitched) (numbers numbers′ : List 
 claimed t ss r numbers numbers′ nodes nodes′ ends ends′ g =
     subst (λ (a : Answer). Claim t ss a) (sym (read-back (stitchedWithin t ss) r numbers numbers′ nodes nodes′ ends ends′ g)) (claim t ss)
 
+-- What the walks need of welding: the parts of the tables that are lent to them are as long as there are edges, and no mark is set.
+pub record Walkable (n m : ℕ) (zs : List Float) (xs ys : List ℕ) (us : List Bool) (walked nodes ends : List ℕ) : Type 0 where
+  pub first-count : m ≡ length (take m xs)
+  pub second-count : m ≡ length (take m ys)
+  pub mark-count : m ≡ length (take m us)
+  pub ready : Ready n zs (take m xs) (take m ys) (take m us)
+  pub spare : Spare (edgesOf (take m xs) (take m ys)) walked nodes ends
+  pub fresh : take m us ≡ replicate (length (take m xs)) false
+
 module _ (t : Float) (ss : List Float) (s : ℕ) (zs₀ : List Float) (n m : ℕ) (zs : List Float) (xs ys nodes ends : List ℕ)
     (w : Welds t ss s zs₀ n m zs xs ys) (lent : Lent s ss zs₀ nodes ends) (kept : length zs ≡ length zs₀)
     (same : length xs ≡ length ys) (room : s ≤ length xs) where
   few : m ≤ 384
   few = omega (arith, w .few-edges, lent .few)
 
-  pub first-count : m ≡ length (take m xs)
-  first-count = sym (length-take-le m xs (omega (arith, w .few-edges)))
+  first : m ≡ length (take m xs)
+  first = sym (length-take-le m xs (omega (arith, w .few-edges)))
 
-  pub second-count : m ≡ length (take m ys)
-  second-count = sym (length-take-le m ys (omega (arith, w .few-edges)))
+  second : m ≡ length (take m ys)
+  second = sym (length-take-le m ys (omega (arith, w .few-edges)))
 
-  pub mark-count : (us : List Bool) → us ≡ replicate 384 false → m ≡ length (take m us)
-  mark-count us e = let a = few in sym (ap length (fresh-part 384 m us e a) ∙ length-replicate m false)
+  marks : m ≡ length (take m (replicate 384 false))
+  marks = sym (ap length (fresh-part 384 m few) ∙ length-replicate m false)
 
-  pub welded-ready : (us : List Bool) → us ≡ replicate 384 false → Ready n zs (take m xs) (take m ys) (take m us)
-  welded-ready us e =
-      let a = first-count in
-      let b = second-count in
+  welded-ready : Ready n zs (take m xs) (take m ys) (take m (replicate 384 false))
+  welded-ready =
+      let a = first in
+      let b = second in
       record {
         ends =
             record {
@@ -99,7 +105,7 @@ module _ (t : Float) (ss : List Float) (s : ℕ) (zs₀ : List Float) (n m : ℕ
               same = omega arith;
               within = λ k h. (let i : k < m = omega arith in rw (getD-take m xs k 0 i, getD-take m ys k 0 i) (w .within k i));
             };
-        marks = sym (mark-count us e) ∙ a;
+        marks = sym marks ∙ a;
       }
 
   exact : edgesOf (take m xs) (take m ys) ≡ listedEdges t (segs 2 s ss)
@@ -108,7 +114,7 @@ module _ (t : Float) (ss : List Float) (s : ℕ) (zs₀ : List Float) (n m : ℕ
   edge-count : length (listedEdges t (segs 2 s ss)) ≡ m
   edge-count = edges-counted w same room
 
-  pub welded-spare : (walked : List ℕ) → s < length walked → Spare (edgesOf (take m xs) (take m ys)) walked nodes ends
+  welded-spare : (walked : List ℕ) → s < length walked → Spare (edgesOf (take m xs) (take m ys)) walked nodes ends
   welded-spare walked l =
       let c = edge-count in
       let d = w .few-edges in
@@ -122,8 +128,18 @@ module _ (t : Float) (ss : List Float) (s : ℕ) (zs₀ : List Float) (n m : ℕ
         ends-room = omega (arith, lent .for-ends);
       })
 
-  pub fresh-marks : (us : List Bool) → us ≡ replicate 384 false → take m us ≡ replicate (length (take m xs)) false
-  fresh-marks us e = let a = first-count in fresh-part 384 m us e few ∙ ap (λ (k : ℕ). replicate k false) a
+  pub walkable : (us : List Bool) (walked : List ℕ) → us ≡ replicate 384 false → s < length walked
+      → Walkable n m zs xs ys us walked nodes ends
+  walkable us walked e l =
+      rw e
+      (record {
+        first-count = first;
+        second-count = second;
+        mark-count = marks;
+        ready = welded-ready;
+        spare = welded-spare walked l;
+        fresh = fresh-part 384 m few ∙ ap (λ (k : ℕ). replicate k false) first;
+      })
 
   numbers : zs ≡ over (flatten (weldedPoints t (segs 2 s ss))) zs₀
   numbers =
@@ -141,7 +157,7 @@ module _ (t : Float) (ss : List Float) (s : ℕ) (zs₀ : List Float) (n m : ℕ
   gave-answer y nodes′ ends′ o =
       let ps = weldedPoints t (segs 2 s ss) in
       let es = listedEdges t (segs 2 s ss) in
-      let a = first-count in
+      let a = first in
       let p = rw (w .points, exact, ← a) at o in
       record {
         numbers-are = numbers;

@@ -32,7 +32,7 @@ pub struct Stitched {
 // Stitches s plane segments of a single cell into closed loops.
 //
 // Writes the welded points, the nodes of the loops and where each loop ends among them. Loops are
-// oriented counter-clockwise.
+// oriented counter-clockwise. Most cells give at most 16 segments, whose small tables take less time to clear.
 pub fn stitch_segments(
     segments: &[f64],
     s: usize,
@@ -45,25 +45,9 @@ pub fn stitch_segments(
     ensures { λ r. ⌜ Stitches (mul binary64 tol tol) (segs 2 s (now (segments .entry))) r (now (points .entry))
         (now (points .exit)) (now (nodes .entry)) (now (nodes .exit)) (now (ends .entry)) (now (ends .exit)) ⌝ }
 {
-    if s <= 16 {
-        return stitch_few(segments, s, tol, points, nodes, ends);
+    if 16 < s {
+        return stitch_many(segments, s, tol, points, nodes, ends);
     }
-    stitch_many(segments, s, tol, points, nodes, ends)
-}
-
-// Stitches at most 16 segments, as most cells give: small tables take less time to clear.
-fn stitch_few(
-    segments: &[f64],
-    s: usize,
-    tol: f64,
-    points: &mut [f64],
-    nodes: &mut [u32],
-    ends: &mut [u32],
-) -> Stitched
-    requires { ⌜ Lent s (now segments) (now points) (now nodes) (now ends) × (s ≤ 16) ⌝ }
-    ensures { λ r. ⌜ Stitches (mul binary64 tol tol) (segs 2 s (now (segments .entry))) r (now (points .entry))
-        (now (points .exit)) (now (nodes .entry)) (now (nodes .exit)) (now (ends .entry)) (now (ends .exit)) ⌝ }
-{
     let mut smaller = [0u32; 16];
     let mut larger = [0u32; 16];
     let mut used = [false; 384];
@@ -84,7 +68,7 @@ fn stitch_few(
     )
 }
 
-// Stitches at most 384 segments.
+// The same with tables for 384 segments.
 fn stitch_many(
     segments: &[f64],
     s: usize,

@@ -12,10 +12,10 @@ enum-told : tie.Need-enum-told
 enum-told c = search needs
 
 slice-aggregate-gather-faces : tie.Need-slice-aggregate-gather-faces
-slice-aggregate-gather-faces c = search needs
+slice-aggregate-gather-faces c = refl
 
 slice-aggregate-gather-faces-2 : tie.Need-slice-aggregate-gather-faces-2
-slice-aggregate-gather-faces-2 c = search needs
+slice-aggregate-gather-faces-2 c = refl
 
 gather-faces-requires : tie.Need-gather-faces-requires
 unfolding flatten endsFrom
@@ -27,10 +27,10 @@ enum-told-2 : tie.Need-enum-told-2
 enum-told-2 c = search needs
 
 slice-aggregate-gather-faces-3 : tie.Need-slice-aggregate-gather-faces-3
-slice-aggregate-gather-faces-3 c = search needs
+slice-aggregate-gather-faces-3 c = refl
 
 slice-aggregate-gather-faces-4 : tie.Need-slice-aggregate-gather-faces-4
-slice-aggregate-gather-faces-4 c = search needs
+slice-aggregate-gather-faces-4 c = refl
 
 gather-faces-requires-2 : tie.Need-gather-faces-requires-2
 unfolding flatten endsFrom
@@ -42,10 +42,10 @@ enum-told-3 : tie.Need-enum-told-3
 enum-told-3 c = search needs
 
 slice-aggregate-gather-faces-5 : tie.Need-slice-aggregate-gather-faces-5
-slice-aggregate-gather-faces-5 c = search needs
+slice-aggregate-gather-faces-5 c = refl
 
 slice-aggregate-gather-faces-6 : tie.Need-slice-aggregate-gather-faces-6
-slice-aggregate-gather-faces-6 c = search needs
+slice-aggregate-gather-faces-6 c = refl
 
 gather-faces-requires-3 : tie.Need-gather-faces-requires-3
 unfolding flatten endsFrom
@@ -60,10 +60,10 @@ phed-faces-requires : tie.Need-phed-faces-requires
 phed-faces-requires c κs = rw (c .before .before .enum-told4 .given .1) at (c .before .before .before .before .before .before .before .before .pre)
 
 same-length : tie.Need-same-length
-same-length c = search needs
+same-length c = c .before .before .before .before .gather-faces .kept .1 .1 .1 .1 .0
 
 same-length-2 : tie.Need-same-length-2
-same-length-2 c = search needs
+same-length-2 c = c .before .before .before .before .gather-faces .kept .1 .1 .1 .1 .1 .0
 
 returns : tie.Need-returns
 unfolding flatten endsFrom
@@ -72,10 +72,10 @@ returns c =
     rw s (c .before .before .before .before .gather-faces .ensures .reads tet refl refl)
 
 same-length-3 : tie.Need-same-length-3
-same-length-3 c = search needs
+same-length-3 c = c .before .before .before .before .gather-faces2 .kept .1 .1 .1 .1 .0
 
 same-length-4 : tie.Need-same-length-4
-same-length-4 c = search needs
+same-length-4 c = c .before .before .before .before .gather-faces2 .kept .1 .1 .1 .1 .1 .0
 
 returns-2 : tie.Need-returns-2
 unfolding flatten endsFrom
@@ -84,10 +84,10 @@ returns-2 c =
     rw s (c .before .before .before .before .gather-faces2 .ensures .reads wedge refl refl)
 
 same-length-5 : tie.Need-same-length-5
-same-length-5 c = search needs
+same-length-5 c = c .before .before .before .before .gather-faces3 .kept .1 .1 .1 .1 .0
 
 same-length-6 : tie.Need-same-length-6
-same-length-6 c = search needs
+same-length-6 c = c .before .before .before .before .gather-faces3 .kept .1 .1 .1 .1 .1 .0
 
 returns-3 : tie.Need-returns-3
 unfolding flatten endsFrom
@@ -96,10 +96,10 @@ returns-3 c =
     rw s (c .before .before .before .before .gather-faces3 .ensures .reads hex refl refl)
 
 same-length-7 : tie.Need-same-length-7
-same-length-7 c = search needs
+same-length-7 c = c .before .before .before .before .phed-faces .kept .1 .1 .0
 
 same-length-8 : tie.Need-same-length-8
-same-length-8 c = search needs
+same-length-8 c = c .before .before .before .before .phed-faces .kept .1 .1 .1 .0
 
 returns-4 : tie.Need-returns-4
 returns-4 c =

@@ -1,24 +1,23 @@
 -- `stitch::stitch_many` meets its contract. Assumes nothing.
 use mathlib.Core.Path.{refl}
 use native.Mathlib.Omega.{arith}
-use borrow.Author.Needs.{needs}
 use Rattle.stitch.proofs.stitch_many.Statement.{statement}
 use Rattle.stitch.proofs.stitch_many.Tie as tie
 
 slice-aggregate-stitch-within : tie.Need-slice-aggregate-stitch-within
-slice-aggregate-stitch-within c = search needs
+slice-aggregate-stitch-within c = refl
 
 slice-aggregate-stitch-within-2 : tie.Need-slice-aggregate-stitch-within-2
-slice-aggregate-stitch-within-2 c = search needs
+slice-aggregate-stitch-within-2 c = refl
 
 slice-aggregate-stitch-within-3 : tie.Need-slice-aggregate-stitch-within-3
-slice-aggregate-stitch-within-3 c = search needs
+slice-aggregate-stitch-within-3 c = refl
 
 slice-aggregate-stitch-within-4 : tie.Need-slice-aggregate-stitch-within-4
-slice-aggregate-stitch-within-4 c = search needs
+slice-aggregate-stitch-within-4 c = refl
 
 slice-aggregate-stitch-within-5 : tie.Need-slice-aggregate-stitch-within-5
-slice-aggregate-stitch-within-5 c = search needs
+slice-aggregate-stitch-within-5 c = refl
 
 stitch-within-requires : tie.Need-stitch-within-requires
 stitch-within-requires c κs = (
@@ -34,16 +33,16 @@ stitch-within-requires c κs = (
 )
 
 same-length : tie.Need-same-length
-same-length c = search needs
+same-length c = c .before .before .before .before .before .before .before .before .before .before .before .stitch-within .kept .1 .1 .1 .0
 
 same-length-2 : tie.Need-same-length-2
-same-length-2 c = search needs
+same-length-2 c = c .before .before .before .before .before .before .before .before .before .before .before .stitch-within .kept .1 .1 .1 .1 .0
 
 same-length-3 : tie.Need-same-length-3
-same-length-3 c = search needs
+same-length-3 c = c .before .before .before .before .before .before .before .before .before .before .before .stitch-within .kept .1 .1 .1 .1 .1 .0
 
 returns : tie.Need-returns
-returns c = search needs
+returns c = c .before .before .before .before .before .before .before .before .before .before .before .stitch-within .ensures
 
 pub stitch-many-spec : {M : Type 1} → statement M
 stitch-many-spec =

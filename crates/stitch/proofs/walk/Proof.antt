@@ -12,7 +12,7 @@ use Rattle.stitch.specs.declared.Next.{Next}
 use Rattle.stitch.specs.declared.Next.the-variants as next
 use Rattle.stitch.specs.Walk.{nextEdge, Walk}
 use Rattle.stitch.specs.Code.{unused, unused}
-use Rattle.stitch.proofs.Walking.{Going, whole, walk-is, going-start, in-buffer, ready, free-in, fewer, going-step, going-open, going-closed}
+use Rattle.stitch.proofs.Walking.{Going, whole, walk-is, going-start, in-buffer, ready, free-in, fewer, going-step, going-open, going-closed, went-as}
 use Rattle.stitch.proofs.walk.Statement.{statement}
 use Rattle.stitch.proofs.walk.Tie as tie
 
@@ -68,6 +68,10 @@ inside c =
     let l = turn c .loop in
     free-in (g .n) (g .points .now) (g .smaller .now) (g .larger .now) _ (the-walk s) (room s) (l .used) (l .nodes) (l .count) (l .previous)
     (l .current) (l .inv) (s .pre .0 .ends) (fits s) (taken c) (chosen c)
+
+-- no edge is left to choose
+none-left : (c : tie.After-enum-told Inv-loop μ-loop) → choice (c .before .before .before .before .before .before) ≡ next.Nothing
+none-left c = sym (c .before .before .select-next-edge .ensures) ∙ c .enum-told .given .1
 
 mul-start-node : tie.Need-mul-start-node Inv-loop μ-loop
 mul-start-node c = omega arith
@@ -169,12 +173,12 @@ returns c =
     let s = c .before .before .before .before .before .before .before .before .before .before .before .before .before .before .before in
     let g = s .args in
     let l = c .before .before .before .before .before .before .loop in
-    rw (walk-is (rows 2 (g .n) (g .points .now)) (g .smaller .now) (g .larger .now) (g .start-edge) (g .used .now) (s .pre .0 .ends .same))
+    went-as (walk-is (rows 2 (g .n) (g .points .now)) (g .smaller .now) (g .larger .now) (g .start-edge) (g .used .now) (s .pre .0 .ends .same))
     (going-open (g .n) (g .points .now) (g .smaller .now) (g .larger .now) _ (the-walk s) (room s) (l .used) (l .nodes) (l .count)
     (l .previous)
     (l .current) (l .inv) (s .pre .0 .ends) (fits s)
     (c .before .before .before .before .before .loop-test .taken)
-    (sym (c .before .before .select-next-edge .ensures) ∙ c .enum-told .given .1))
+    (none-left c))
 
 slice-write-used-2 : tie.Need-slice-write-used-2 Inv-loop μ-loop
 slice-write-used-2 c = omega (arith, inside c, c .before .before .before .before .before .before .before .loop .inv .marks)
@@ -246,7 +250,7 @@ returns-2 c =
     let s = c .before .before .before .before .before .before .before .before .before .before in
     let g = s .args in
     let l = c .before .loop in
-    rw (walk-is (rows 2 (g .n) (g .points .now)) (g .smaller .now) (g .larger .now) (g .start-edge) (g .used .now) (s .pre .0 .ends .same))
+    went-as (walk-is (rows 2 (g .n) (g .points .now)) (g .smaller .now) (g .larger .now) (g .start-edge) (g .used .now) (s .pre .0 .ends .same))
     (going-closed (g .n) (g .points .now) (g .smaller .now) (g .larger .now) _ (the-walk s) (room s) (l .used) (l .nodes) (l .count)
     (l .previous)
     (l .current) (l .inv) (s .pre .0 .ends) (fits s)
