@@ -30,7 +30,7 @@ use vector::Vec3;
 // Cuts a single cell in space with the line through origin that has this direction: the segments, six numbers each.
 //
 // The cell is cut by a plane that contains the line, whose in-plane basis makes the line y = 0, and the loops of
-// that section are cut by it.
+// that section are cut by it. The faces of a polyhedron can have 256 corners, those of every other type at most 24.
 pub fn slice_line_3d(
     t: u8,
     conn: &[u64],
@@ -47,38 +47,10 @@ pub fn slice_line_3d(
 {
     let by = place(origin, direction);
     if t == SpaceType::PHED {
-        return line_phed(conn, xs, by, tol, numbers);
+        let mut coords = [0.0f64; 768];
+        let mut stops = [0usize; 85];
+        return line_within(t, conn, xs, by, tol, numbers, &mut coords, &mut stops);
     }
-    line_fixed(t, conn, xs, by, tol, numbers)
-}
-
-// The same for a polyhedron, whose faces can have 256 corners.
-fn line_phed(conn: &[u64], xs: &[f64], by: Placing, tol: f64, numbers: &mut [f64]) -> Line
-    ensures { λ r. ⌜ GaveLine
-        (cellCut (placing by) 18 (now (conn .entry)) (now (xs .entry)) tol (length (now (numbers .entry))))
-        (meaning r) (now (numbers .entry)) (now (numbers .exit)) ⌝ }
-{
-    let mut coords = [0.0f64; 768];
-    let mut stops = [0usize; 85];
-    line_within(
-        SpaceType::PHED,
-        conn,
-        xs,
-        by,
-        tol,
-        numbers,
-        &mut coords,
-        &mut stops,
-    )
-}
-
-// The same for every other type: at most 24 face corners.
-fn line_fixed(t: u8, conn: &[u64], xs: &[f64], by: Placing, tol: f64, numbers: &mut [f64]) -> Line
-    requires { ⌜ (t ≡ 18 → ⊥) ⌝ }
-    ensures { λ r. ⌜ GaveLine
-        (cellCut (placing by) t (now (conn .entry)) (now (xs .entry)) tol (length (now (numbers .entry))))
-        (meaning r) (now (numbers .entry)) (now (numbers .exit)) ⌝ }
-{
     let mut coords = [0.0f64; 72];
     let mut stops = [0usize; 6];
     line_within(t, conn, xs, by, tol, numbers, &mut coords, &mut stops)

@@ -111,44 +111,18 @@ fn with_normal(origin: Vec2, normal: Unit2, tol: f64) -> Cutting
     }
 }
 
-// Cuts a single cell in the plane with a line that is placed already.
+// Cuts a single cell in the plane with a line that is placed already. A polygon can have 256 corners, every other type
+// at most four.
 fn cut_cell(t: u8, conn: &[u64], xs: &[f64], by: Cutting, numbers: &mut [f64]) -> Line
     ensures { λ r. ⌜ GaveLine
         (cellCut (cutting by) t (now (conn .entry)) (now (xs .entry)) (length (now (numbers .entry))))
         (meaning r) (now (numbers .entry)) (now (numbers .exit)) ⌝ }
 {
     if t == PlaneType::PGON {
-        return cut_pgon(conn, xs, by, numbers);
+        let mut coords = [0.0f64; 512];
+        let mut points = [0.0f64; 768];
+        return cut_within(t, conn, xs, by, &mut coords, &mut points, numbers);
     }
-    cut_fixed(t, conn, xs, by, numbers)
-}
-
-// The same for a polygon, which can have 256 corners.
-fn cut_pgon(conn: &[u64], xs: &[f64], by: Cutting, numbers: &mut [f64]) -> Line
-    ensures { λ r. ⌜ GaveLine
-        (cellCut (cutting by) 11 (now (conn .entry)) (now (xs .entry)) (length (now (numbers .entry))))
-        (meaning r) (now (numbers .entry)) (now (numbers .exit)) ⌝ }
-{
-    let mut coords = [0.0f64; 512];
-    let mut points = [0.0f64; 768];
-    cut_within(
-        PlaneType::PGON,
-        conn,
-        xs,
-        by,
-        &mut coords,
-        &mut points,
-        numbers,
-    )
-}
-
-// The same for every other type: at most four corners.
-fn cut_fixed(t: u8, conn: &[u64], xs: &[f64], by: Cutting, numbers: &mut [f64]) -> Line
-    requires { ⌜ (t ≡ 11 → ⊥) ⌝ }
-    ensures { λ r. ⌜ GaveLine
-        (cellCut (cutting by) t (now (conn .entry)) (now (xs .entry)) (length (now (numbers .entry))))
-        (meaning r) (now (numbers .entry)) (now (numbers .exit)) ⌝ }
-{
     let mut coords = [0.0f64; 8];
     let mut points = [0.0f64; 12];
     cut_within(t, conn, xs, by, &mut coords, &mut points, numbers)

@@ -32,6 +32,8 @@ pub enum Tolerance {
 
 // Cuts a single cell in space with a plane: the section's points in the plane's own coordinates, the nodes of its
 // loops, and where each loop ends among them.
+//
+// The faces of a polyhedron can have 256 corners, those of every other type at most 24.
 pub fn section_cell_by_plane(
     t: u8,
     conn: &[u64],
@@ -51,9 +53,35 @@ pub fn section_cell_by_plane(
 {
     let by = place(origin, normal);
     if t == SpaceType::PHED {
-        return section_phed(conn, xs, by, tol, numbers, nodes, ends);
+        let mut coords = [0.0f64; 768];
+        let mut stops = [0usize; 85];
+        return section_within(
+            t,
+            conn,
+            xs,
+            by,
+            tol,
+            &mut coords,
+            &mut stops,
+            numbers,
+            nodes,
+            ends,
+        );
     }
-    section_fixed(t, conn, xs, by, tol, numbers, nodes, ends)
+    let mut coords = [0.0f64; 72];
+    let mut stops = [0usize; 6];
+    section_within(
+        t,
+        conn,
+        xs,
+        by,
+        tol,
+        &mut coords,
+        &mut stops,
+        numbers,
+        nodes,
+        ends,
+    )
 }
 
 // Stitching alone: segments of four numbers each, at most 384.
@@ -101,72 +129,6 @@ pub fn tolerance_in_plane(xs: &[f64]) -> Tolerance
         return Tolerance::Refused(3);
     }
     Tolerance::Of(vector::slice_tolerance(xs, 2))
-}
-
-// The plane cut of a polyhedron, whose faces can have 256 corners.
-fn section_phed(
-    conn: &[u64],
-    xs: &[f64],
-    by: Placing,
-    tol: f64,
-    numbers: &mut [f64],
-    nodes: &mut [u32],
-    ends: &mut [u32],
-) -> Section
-    ensures { λ r. ⌜ Gave
-        (cellCut (placing by) 18 (now (conn .entry)) (now (xs .entry)) tol (length (now (numbers .entry)))
-        (length (now (nodes .entry))) (length (now (ends .entry))))
-        (meaning r) (now (numbers .entry)) (now (numbers .exit)) (now (nodes .entry)) (now (nodes .exit))
-        (now (ends .entry)) (now (ends .exit)) ⌝ }
-{
-    let mut coords = [0.0f64; 768];
-    let mut stops = [0usize; 85];
-    section_within(
-        SpaceType::PHED,
-        conn,
-        xs,
-        by,
-        tol,
-        &mut coords,
-        &mut stops,
-        numbers,
-        nodes,
-        ends,
-    )
-}
-
-// The plane cut of every other type: at most 24 face corners.
-fn section_fixed(
-    t: u8,
-    conn: &[u64],
-    xs: &[f64],
-    by: Placing,
-    tol: f64,
-    numbers: &mut [f64],
-    nodes: &mut [u32],
-    ends: &mut [u32],
-) -> Section
-    requires { ⌜ (t ≡ 18 → ⊥) ⌝ }
-    ensures { λ r. ⌜ Gave
-        (cellCut (placing by) t (now (conn .entry)) (now (xs .entry)) tol (length (now (numbers .entry)))
-        (length (now (nodes .entry))) (length (now (ends .entry))))
-        (meaning r) (now (numbers .entry)) (now (numbers .exit)) (now (nodes .entry)) (now (nodes .exit))
-        (now (ends .entry)) (now (ends .exit)) ⌝ }
-{
-    let mut coords = [0.0f64; 72];
-    let mut stops = [0usize; 6];
-    section_within(
-        t,
-        conn,
-        xs,
-        by,
-        tol,
-        &mut coords,
-        &mut stops,
-        numbers,
-        nodes,
-        ends,
-    )
 }
 
 // Refusals 1 to 4, then the cut; the scratch slices are large enough for the type.
