@@ -227,7 +227,7 @@ def _add(mesh: Mesh, name: str, data: object, first: int) -> None:
         return
     nodes = np.asarray(data)
     kind = (IN_SPACE if mesh.dimension == 3 else IN_PLANE).get(name)
-    if mesh.dimension == 2 and name == "polygon" and nodes.ndim == 2:
+    if mesh.dimension == 2 and name.startswith("polygon") and nodes.ndim == 2:
         kind = CellType(POLYGON, nodes.shape[1], nodes.shape[1])
     if kind is None:
         mesh.others.append((name, dimension(name), len(nodes), nodes if nodes.ndim == 2 else None))

@@ -179,3 +179,12 @@ def test_faces_are_the_types_own(name, normal):
     two = cicelybeam.cut_plane(meshio.Mesh(corners, [(f"polyhedron{len(corners)}", [faces])]), origin, normal)
     assert np.array_equal(one.points, two.points) and np.array_equal(one.nodes, two.nodes)
     assert np.array_equal(one.counts, two.counts)
+
+
+def test_polygons_from_a_file(tmp_path):
+    """Polygons of several lengths, which meshio puts into blocks of one length each."""
+    points = np.array([[0, 0, 0], [1, 0, 0], [1.5, 0.8, 0], [0.5, 1.5, 0], [-0.5, 0.8, 0], [2, 0, 0], [2.5, 1, 0], [2, 2, 0], [1, 2, 0]])
+    cells = [("polygon", np.array([[0, 1, 2, 3, 4]])), ("polygon", np.array([[1, 5, 6, 7, 8, 2]]))]
+    meshio.Mesh(points, cells).write(tmp_path / "a.vtu")
+    record = cicelybeam.cut_line(cicelybeam.read(tmp_path / "a.vtu"), (0, 0.5), (1, 0)).record
+    assert record.cells_by_type == {"polygon": 2} and record.covered == pytest.approx(2.5625) and record.all_drawn
