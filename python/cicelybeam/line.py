@@ -13,7 +13,7 @@ from .library import MOST_ENTRIES, floats, library, slice_tolerance
 from .mesh import Mesh, of_meshio
 from .place import Sides, Vector
 from .plane import PlaneCut, cut_plane
-from .record import below_own, counted, some, vector
+from .record import below_own, counted, extent, some, vector
 from .refusal import MeshError, Refused
 from .version import VERSION
 
@@ -33,6 +33,7 @@ class LineRecord:
     direction: list[float]
     tolerance: float
     mesh_tolerance: float
+    extent: list[list[float]]
     cells: int
     cells_by_type: dict[str, int]
     not_cut: dict[str, int]
@@ -85,6 +86,7 @@ class LineRecord:
         stretches = ", ".join(f"{a:.6g} to {b:.6g}" for a, b in self.stretches[:8]) + (", ..." if len(self.stretches) > 8 else "")
         lines = [
             ("mesh", self.source),
+            ("extent", extent(self.extent)),
             ("cells", f"{self.cells}: {counted(self.cells_by_type)}"),
             ("not cut", counted(self.not_cut)),
             ("line", f"through {vector(self.origin)}, direction {vector(self.direction)}"),
@@ -223,10 +225,12 @@ def _record(
             reached[name] = reached.get(name, 0) + count
     covered, stretches = _covered(segments, origin, direction, 2 * max(tol, own))
     record = LineRecord(
-        VERSION, mesh.source, list(origin), list(direction), tol, own, mesh.total, mesh.types(), mesh.not_cut(), reached,
+        VERSION, mesh.source, list(origin), list(direction), tol, own, mesh.extent, mesh.total, mesh.types(), mesh.not_cut(), reached,
         len(np.unique(owner)), len(segments), float(lengths.sum()), covered, stretches, *lacking, mesh.dropped,
     )
     record.warnings = [f"meshio says: {remark}" for remark in mesh.remarks]
+    if not len(segments):
+        record.warnings.append(f"the line has no segment in any cell; the mesh extends over {extent(record.extent)}")
     if not tol >= own:
         record.warnings.append(below_own(tol, own, "line"))
     if not record.all_drawn and not record.only_touching:

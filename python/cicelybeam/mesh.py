@@ -126,6 +126,12 @@ class Mesh:
         return self.points.shape[1]
 
     @property
+    def extent(self) -> list[list[float]]:
+        """The least and the greatest of each coordinate of its nodes, NaN left out."""
+        known = self.points[~np.isnan(self.points).any(axis=1)]
+        return [known.min(axis=0).tolist(), known.max(axis=0).tolist()] if len(known) else []
+
+    @property
     def total(self) -> int:
         return sum(map(len, self.blocks)) + sum(count for _, _, count, _ in self.others)
 

@@ -41,6 +41,7 @@ class PlaneRecord:
     normal: list[float]
     tolerance: float
     mesh_tolerance: float
+    extent: list[list[float]]  # the least and the greatest of each coordinate of the mesh's nodes
     cells: int  # in the mesh
     cells_by_type: dict[str, int]  # of types that are cut
     not_cut: dict[str, int]  # of other types
@@ -123,6 +124,7 @@ class PlaneRecord:
     def __str__(self) -> str:
         lines = [
             ("mesh", self.source),
+            ("extent", extent(self.extent)),
             ("cells", f"{self.cells}: {counted(self.cells_by_type)}"),
             ("not cut", self._not_cut()),
             ("plane", f"through {vector(self.origin)}, normal {vector(self.normal)}"),
@@ -171,6 +173,14 @@ def vector(numbers: list[float]) -> str:
     return "(" + ", ".join(f"{x:.6g}" for x in numbers) + ")"
 
 
+def extent(low_high: list[list[float]]) -> str:
+    """
+    >>> extent([[0.0, 0.0], [4.0, 2.0]])
+    '(0, 0) to (4, 2)'
+    """
+    return " to ".join(map(vector, low_high)) or "none"
+
+
 def some(cells: list[int]) -> str:
     """The first of these cells, after a colon."""
     if not cells:
@@ -185,7 +195,7 @@ def plane_record(
     mesh = cut.mesh
     counts = cut.counts.sum(axis=0).tolist()
     record = PlaneRecord(
-        VERSION, mesh.source, list(cut.frame.origin), list(cut.frame.normal), tol, own, mesh.total, mesh.types(), mesh.not_cut(),
+        VERSION, mesh.source, list(cut.frame.origin), list(cut.frame.normal), tol, own, mesh.extent, mesh.total, mesh.types(), mesh.not_cut(),
         _not_cut_reached(cut, sides), handed_over, len(crossed), len(cut.cells), len(cut), float(cut.polygon_area.sum()),
         *counts, _undrawn(cut, crossed), no_edge, no_segment, _within_tolerance(cut, sides), _not_finite(cut, sides),
         cut.coincident.polygons, len(cut.coincident.groups), cut.coincident.repeated_area,
@@ -243,6 +253,8 @@ def below_own(tol: float, own: float, cut: str) -> str:
 
 def _warnings(record: PlaneRecord, remarks: list[str]) -> list[str]:
     found = [f"meshio says: {remark}" for remark in remarks]
+    if not record.crossed and not record.with_edges:
+        found.append(f"the plane meets no cell that is cut; the mesh extends over {extent(record.extent)}")
     if not record.tolerance >= record.mesh_tolerance:
         found.append(below_own(record.tolerance, record.mesh_tolerance, "plane"))
     if record.crossed_without_edge or record.crossed_face_without_segment:

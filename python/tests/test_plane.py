@@ -301,3 +301,10 @@ def test_coinciding_polygons_on_grid_lines(place_of_first, shift):
     points = np.concatenate([square, square + shift, square + 10])
     found = find_coincident(points, np.arange(12), np.array([4, 8, 12]), np.full(3, 4e6), tol)
     assert found.groups == [[0, 1]] and found.repeated_area == 4e6
+
+
+def test_plane_that_misses_the_mesh(cube):
+    """A user sees where the mesh is; all was cut, and nothing is missing."""
+    record = cicelybeam.cut_plane(cube, (0, 0, 7), (0, 0, 1)).record
+    assert record.all_drawn and record.all_cut and record.extent == [[0, 0, 0], [1, 1, 1]]
+    assert record.warnings == ["the plane meets no cell that is cut; the mesh extends over (0, 0, 0) to (1, 1, 1)"]
