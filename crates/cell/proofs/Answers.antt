@@ -6,14 +6,14 @@ use Prim.Native.Nat.{ℕ, _/_, _%_}
 use borrow.Author.Tests.{eq-eqb, ne-eqb}
 use lib.Ieee.{Float}
 use lib.ListN.{length, length-map}
-use Rattle.rows.specs.Rows.{endsFrom, over}
+use Rattle.rows.specs.Rows.{over}
 use Rattle.cell.specs.Types.{allow}
 use Rattle.cell.specs.Faces.{Face}
-use Rattle.cell.specs.Read.{corner, areRows, polygons, Kind, none, kind, Read, refused, read, readAs, counts, endsOf, Gave, Faced}
+use Rattle.cell.specs.Read.{corner, areRows, polygons, Kind, none, kind, Read, refused, read, readAs, counts, Gave}
 use Rattle.cell.specs.Code.{gathered, readFaces, Gathered}
 use Rattle.cell.specs.declared.Nodes.{Nodes}
 use Rattle.cell.specs.declared.Reading.the-variants.{Refused, Cell}
-use Rattle.cell.proofs.Lists.{flatten-map, ends-map, length-ends}
+use Rattle.cell.proofs.Lists.{flatten-map}
 
 -- ---- refusals 1 to 3, in order
 
@@ -37,11 +37,6 @@ module _ (w : ℕ) (c : List ℕ) (xs : List Float) where
 
 pub refusal-gave : (o : Read) (k : ℕ) (out : List Float) → o ≡ refused k → Gave o (Refused k) out out
 refusal-gave o k out e = subst (λ o. Gave o (Refused k) out out) (sym e) (record { answer = refl; coords = refl })
-
-pub refusal-faced : (o : Read) (k : ℕ) (out : List Float) (ends : List ℕ) → o ≡ refused k → Faced o (Refused k) out out ends ends
-refusal-faced o k out ends e =
-    subst (λ o. Faced o (Refused k) out out ends ends) (sym e)
-    (record { gave = record { answer = refl; coords = refl }; places = refl })
 
 -- ---- refusal 4, or the cell
 
@@ -78,20 +73,3 @@ module _ (w : ℕ) (c : List ℕ) (xs : List Float) (fs : List Face) (ps : List 
             g .filled ∙ ap (λ b. over (cond b (gathered w c xs ps) []) out) h
             ∙ ap (λ l. over (flatten l) out) (ap (map (corner w c xs)) e ∙ sym (flatten-map (corner w c xs) fs));
       })
-
-  -- with the faces' ends
-  pub refusal-4-faced : (ends : List ℕ) → r ≡ false → Faced (readFaces w c xs fs) (Refused 4) out out′ ends ends
-  refusal-4-faced ends h =
-      record { gave = refusal-4 h; places = subst (λ o. ends ≡ over (endsOf o) ends) (sym (no-row h)) refl }
-
-  pub cell-faced : (totals ends ends′ : List ℕ) → totals ≡ endsFrom 0 fs → ends′ ≡ over totals ends → r ≡ true
-      → Faced (readFaces w c xs fs) (Cell (length ps) (length totals)) out out′ ends ends′
-  cell-faced totals ends ends′ t q h =
-      record {
-        gave =
-            subst (λ f. Gave (readFaces w c xs fs) (Cell (length ps) f) out out′)
-            (sym (ap length t ∙ length-ends 0 fs)) (cell-gave h);
-        places =
-            subst (λ o. ends′ ≡ over (endsOf o) ends) (sym (all-rows h))
-            (q ∙ ap (λ l. over l ends) (t ∙ sym (ends-map (corner w c xs) 0 fs)));
-      }

@@ -67,7 +67,7 @@ threes-kept (f ∷ fs) = either (kept fs) (threes-kept fs) (ltb (length f) 3) re
 
 -- ---- every type in space
 
-nodes-few : (k : SpaceType) (n : ℕ) → allow (spaceNodes k) n ≡ true → n ≤ 256
+pub nodes-few : (k : SpaceType) (n : ℕ) → allow (spaceNodes k) n ≡ true → n ≤ 256
 nodes-few Tet4 n e = omega (arith, eqb-true n 4 e)
 nodes-few Tet10 n e = omega (arith, eqb-true n 10 e)
 nodes-few Hex8 n e = omega (arith, eqb-true n 8 e)

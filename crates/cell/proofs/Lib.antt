@@ -7,3 +7,4 @@ pub mod Polygon
 pub mod Bounds
 pub mod Alike
 pub mod Worked
+pub mod Accepted

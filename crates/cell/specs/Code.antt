@@ -8,7 +8,8 @@ use lib.Ieee.{Float}
 use lib.ListN.{length, take}
 use Rattle.rows.specs.Rows.{endsFrom, over}
 use Rattle.cell.specs.Faces.{Face, polygonOf}
-use Rattle.cell.specs.Read.{corner, areRows, polygons, Read, refused, read, Gave, Faced}
+use Rattle.cell.specs.Read.{corner, areRows, polygons, Read, refused, read, Gave, Told, refusal, counts, Copied}
+use Rattle.cell.specs.declared.Kept.{Kept}
 use Rattle.cell.specs.declared.Reading.{Reading}
 
 -- whether every position is below n
@@ -53,6 +54,32 @@ pub record Ready (c : List ℕ) (fs : List Face) (out : List Float) (ends : List
 pub record ReadsPolygon (ps c : List ℕ) (xs : List Float) (r : Reading) (out out′ : List Float) : Type 0 where
   pub reads : (n : ℕ) → ps ≡ flatten (polygonOf n) → Gave (readFaces 2 c xs (polygonOf n)) r out out′
 
--- what is read of the faces whose corners stand at the positions ps and which end at `totals`
-pub record ReadsFaces (ps totals c : List ℕ) (xs : List Float) (r : Reading) (out out′ : List Float) (ends ends′ : List ℕ) : Type 0 where
-  pub reads : (fs : List Face) → ps ≡ flatten fs → totals ≡ endsFrom 0 fs → Faced (readFaces 3 c xs fs) r out out′ ends ends′
+-- ---- tested first, copied later
+
+-- what a test of faces needs: few nodes, and positions of the connectivity
+pub record Testable (c : List ℕ) (fs : List Face) : Type 0 where
+  pub few : length c ≤ 256
+  pub inside : T (below (length c) (flatten fs))
+
+-- what is told of f faces whose corners stand at the positions ps: refusal 4, or how many they are
+abbrev pub cornersTested : List ℕ → ℕ → List ℕ → ℕ → Told
+cornersTested c rows ps f = cond (areRows c rows ps) (counts (length ps) f) (refusal 4)
+
+-- what is told of the faces fs
+abbrev pub tested : List ℕ → ℕ → List Face → Told
+tested c rows fs = cornersTested c rows (flatten fs) (length fs)
+
+-- what copying the faces fs needs: what their reading needs, and that all corners are rows
+pub record Copies (c : List ℕ) (xs : List Float) (fs : List Face) (out : List Float) (ends : List ℕ) : Type 0 where
+  pub ready : Ready c fs out ends
+  pub rows : T (areRows c (length xs / 3) (flatten fs))
+
+-- the same of positions and ends in a row
+pub record PutsFaces (ps totals c : List ℕ) (xs out : List Float) (ends : List ℕ) : Type 0 where
+  pub gathers : Gathers 3 c ps out
+  pub rows : T (areRows c (length xs / 3) ps)
+  pub space : length totals ≤ length ends
+
+-- the faces whose corners stand at the positions ps and which end at `totals` are written
+pub record PutFaces (ps totals c : List ℕ) (xs : List Float) (r : Kept) (out out′ : List Float) (ends ends′ : List ℕ) : Type 0 where
+  pub puts : (fs : List Face) → ps ≡ flatten fs → totals ≡ endsFrom 0 fs → Copied (polygons 3 c xs fs) r out out′ ends ends′

@@ -15,6 +15,7 @@ use Rattle.cell.specs.declared.InSpace as S
 use Rattle.cell.specs.declared.InSpace.the-variants as s
 use Rattle.cell.specs.declared.InPlane as P
 use Rattle.cell.specs.declared.InPlane.the-variants as p
+use Rattle.cell.specs.declared.Kept.{Kept}
 use Rattle.cell.specs.declared.Reading.{Reading}
 use Rattle.cell.specs.declared.Reading.the-variants.{Refused, Cell}
 
@@ -79,6 +80,23 @@ spaceCell t = readAs 3 (spaceKind (spaceType t))
 abbrev pub planeCell : ℕ → List ℕ → List Float → Read
 planeCell t = readAs 2 (planeKind (planeType t))
 
+-- the polygons that were read; a refusal has none
+abbrev pub polygonsRead : Read → List Polygon
+polygonsRead (refused k) = []
+polygonsRead (read ps) = ps
+
+-- those of a cell in space
+abbrev pub polygonsIn : ℕ → List ℕ → List Float → List Polygon
+polygonsIn t c xs = polygonsRead (spaceCell t c xs)
+
+-- how many face corners they have
+abbrev pub cornersIn : ℕ → List ℕ → List Float → ℕ
+cornersIn t c xs = length (flatten (polygonsIn t c xs))
+
+-- nothing of the cell in space is refused
+abbrev pub Accepted : ℕ → List ℕ → List Float → Type 0
+Accepted t c xs = spaceCell t c xs ≡ read (polygonsIn t c xs)
+
 -- ---- what the code answers and leaves
 
 -- what an answer tells: a refusal's number, or how many face corners and faces are kept
@@ -116,12 +134,18 @@ facesMost t = cond (eqb t 18) 85 6
 abbrev pub planeMost : ℕ → ℕ
 planeMost t = cond (eqb t 11) 256 4
 
+-- the answer r to a test tells what the reading o does
+pub record Tested (o : Read) (r : Reading) : Type 0 where
+  pub answer : meaning r ≡ told o
+
 -- the answer r to a reading, and the coordinates written over the slice lent for them
 pub record Gave (o : Read) (r : Reading) (out out′ : List Float) : Type 0 where
   pub answer : meaning r ≡ told o
   pub coords : out′ ≡ over (coordsOf o) out
 
--- the same with the faces' ends written over the slice lent for them
-pub record Faced (o : Read) (r : Reading) (out out′ : List Float) (ends ends′ : List ℕ) : Type 0 where
-  pub gave : Gave o r out out′
-  pub places : ends′ ≡ over (endsOf o) ends
+-- the polygons ps are written: their corners' coordinates over one slice, their ends over another; r tells how many there are
+pub record Copied (ps : List Polygon) (r : Kept) (out out′ : List Float) (ends ends′ : List ℕ) : Type 0 where
+  pub corners : r .corners ≡ length (flatten ps)
+  pub faces : r .faces ≡ length ps
+  pub coords : out′ ≡ over (flatten (flatten ps)) out
+  pub places : ends′ ≡ over (endsFrom 0 ps) ends

@@ -73,6 +73,14 @@ shapeOf Wedge6 = h.Wedge
 shapeOf Wedge15 = h.Wedge
 shapeOf Phed = h.Phed
 
+-- the shape of the type with a number; of a number that has none a polyhedron
+abbrev pub shapeIn : S.InSpace → Shape
+shapeIn (s.Known k) = shapeOf k
+shapeIn s.Unknown = h.Phed
+
+abbrev pub shapeNumbered : ℕ → Shape
+shapeNumbered t = shapeIn (spaceType t)
+
 -- ---- in the plane
 
 -- the number of a type

@@ -6,11 +6,13 @@ ghost use lib.Dec.{T};
 ghost use lib.ListN.{length, getD, take};
 ghost use lib.Seq.{paste};
 ghost use Rattle.rows.specs.Rows.{over};
-ghost use Rattle.cell.specs.Types.{allow, spaceNumber, spaceType, spaceNodes, spaceCorners, shapeOf};
+ghost use Rattle.cell.specs.Types.{allow, spaceNumber, spaceType, spaceNodes, spaceCorners, shapeOf, shapeNumbered};
 ghost use Rattle.cell.specs.Types.{planeNumber, planeType, planeNodes, planeCorners};
 ghost use Rattle.cell.specs.Faces.{stretches, kept, facesOf, polygonOf};
-ghost use Rattle.cell.specs.Read.{areRows, spaceCell, planeCell, spaceMost, facesMost, planeMost, Gave, Faced};
-ghost use Rattle.cell.specs.Code.{below, gathered, readFaces, Gathers, Gathered, Listed, Ready, ReadsFaces, ReadsPolygon};
+ghost use Rattle.cell.specs.Read.{areRows, spaceCell, planeCell, polygons, spaceMost, facesMost, planeMost, Gave};
+ghost use Rattle.cell.specs.Read.{meaning, polygonsIn, Accepted, Copied, Tested};
+ghost use Rattle.cell.specs.Code.{below, gathered, readFaces, tested, Gathers, Gathered, Listed, ReadsPolygon};
+ghost use Rattle.cell.specs.Code.{Copies, PutsFaces, PutFaces, Testable, cornersTested};
 
 // How many nodes a type has.
 pub enum Nodes {
@@ -154,6 +156,16 @@ impl SpaceType {
         }
     }
 
+    // The shape of the type with a number; of a number that has none a polyhedron, whose faces any connectivity has.
+    pub fn shape_of(t: u8) -> Shape
+        ensures { λ r. ⌜ r ≡ shapeNumbered t ⌝ }
+    {
+        let InSpace::Known(k) = SpaceType::of_number(t) else {
+            return Shape::Phed;
+        };
+        k.shape()
+    }
+
     // The shape whose faces it has.
     pub fn shape(self) -> Shape
         ensures { λ r. ⌜ r ≡ shapeOf self ⌝ }
@@ -291,20 +303,15 @@ pub enum Reading {
     Cell { corners: usize, faces: usize },
 }
 
-// A cell in space: its corners' coordinates go to `out`, face by face, and where each face ends among
-// the corners to `ends`. A refusal leaves both as they are.
-pub fn read_space_cell(
-    t: u8,
-    conn: &[u64],
-    xs: &[f64],
-    out: &mut [f64],
-    ends: &mut [usize],
-) -> Reading
-    requires { ⌜ (3 * spaceMost t ≤ length (now out)) × (facesMost t ≤ length (now ends)) ⌝ }
-    ensures { λ r. ⌜
-        Faced (spaceCell t (now (conn .entry)) (now (xs .entry))) r
-        (now (out .entry)) (now (out .exit)) (now (ends .entry)) (now (ends .exit))
-        ⌝ }
+// How many face corners and faces are kept.
+pub struct Kept {
+    pub corners: usize,
+    pub faces: usize,
+}
+
+// Refusals 1 to 4 of a cell in space, or how many face corners and faces it has. Writes nothing.
+pub fn test_space_cell(t: u8, conn: &[u64], xs: &[f64]) -> Reading
+    ensures { λ r. ⌜ Tested (spaceCell t (now (conn .entry)) (now (xs .entry))) r ⌝ }
 {
     let InSpace::Known(k) = SpaceType::of_number(t) else {
         return Reading::Refused(1);
@@ -315,7 +322,106 @@ pub fn read_space_cell(
     if xs.len() % 3 != 0 {
         return Reading::Refused(3);
     }
-    cell_faces(k.shape(), conn, xs, out, ends)
+    test_faces(k.shape(), conn, xs.len() / 3)
+}
+
+// The corners' coordinates of an accepted cell in space, written over the start of `out` face by face, and where each
+// face ends among the corners, written over the start of `ends`.
+pub fn copy_space_cell(t: u8, conn: &[u64], xs: &[f64], out: &mut [f64], ends: &mut [usize]) -> Kept
+    requires { ⌜ Accepted t (now conn) (now xs) × (3 * spaceMost t ≤ length (now out))
+        × (facesMost t ≤ length (now ends)) ⌝ }
+    ensures { λ r. ⌜ Copied (polygonsIn t (now (conn .entry)) (now (xs .entry))) r (now (out .entry)) (now (out .exit))
+        (now (ends .entry)) (now (ends .exit)) ⌝ }
+{
+    copy_faces(SpaceType::shape_of(t), conn, xs, out, ends)
+}
+
+// Refusal 4, or how many corners and faces a cell of this shape has.
+fn test_faces(s: Shape, conn: &[u64], rows: usize) -> Reading
+    requires { ⌜ Testable (now conn) (facesOf s (now conn)) ⌝ }
+    ensures { λ r. ⌜ meaning r ≡ tested (now (conn .entry)) rows (facesOf s (now (conn .entry))) ⌝ }
+{
+    match s {
+        Shape::Tet => test_corners(conn, &TET, 4, rows),
+        Shape::Wedge => test_corners(conn, &WEDGE, 5, rows),
+        Shape::Hex => test_corners(conn, &HEX, 6, rows),
+        Shape::Phed => test_phed(conn, rows),
+    }
+}
+
+// The same of a polyhedron.
+fn test_phed(conn: &[u64], rows: usize) -> Reading
+    requires { ⌜ Testable (now conn) (kept (stretches 0 (now conn))) ⌝ }
+    ensures { λ r. ⌜ meaning r ≡ tested (now (conn .entry)) rows (kept (stretches 0 (now (conn .entry)))) ⌝ }
+{
+    let mut corners = [0u8; 256];
+    let mut totals = [0usize; 85];
+    let l = list_phed(conn, &mut corners, &mut totals);
+    let m = l.corners;
+    test_corners(conn, &corners[..m], l.faces, rows)
+}
+
+// Refusal 4, or how many corners these are, in so many faces.
+fn test_corners(conn: &[u64], corners: &[u8], faces: usize, rows: usize) -> Reading
+    requires { ⌜ T (below (length (now conn)) (now corners)) ⌝ }
+    ensures { λ r. ⌜ meaning r ≡ cornersTested (now (conn .entry)) rows (now (corners .entry)) faces ⌝ }
+{
+    if are_rows(conn, corners, rows) {
+        return Reading::Cell {
+            corners: corners.len(),
+            faces: faces,
+        };
+    }
+    Reading::Refused(4)
+}
+
+// The corners of a cell of this shape, all of which are rows.
+fn copy_faces(s: Shape, conn: &[u64], xs: &[f64], out: &mut [f64], ends: &mut [usize]) -> Kept
+    requires { ⌜ Copies (now conn) (now xs) (facesOf s (now conn)) (now out) (now ends) ⌝ }
+    ensures { λ r. ⌜ Copied (polygons 3 (now (conn .entry)) (now (xs .entry)) (facesOf s (now (conn .entry)))) r
+        (now (out .entry)) (now (out .exit)) (now (ends .entry)) (now (ends .exit)) ⌝ }
+{
+    match s {
+        Shape::Tet => put_faces(&TET, &TET_ENDS, conn, xs, out, ends),
+        Shape::Wedge => put_faces(&WEDGE, &WEDGE_ENDS, conn, xs, out, ends),
+        Shape::Hex => put_faces(&HEX, &HEX_ENDS, conn, xs, out, ends),
+        Shape::Phed => copy_phed(conn, xs, out, ends),
+    }
+}
+
+// The same of a polyhedron.
+fn copy_phed(conn: &[u64], xs: &[f64], out: &mut [f64], ends: &mut [usize]) -> Kept
+    requires { ⌜ Copies (now conn) (now xs) (kept (stretches 0 (now conn))) (now out) (now ends) ⌝ }
+    ensures { λ r. ⌜ Copied (polygons 3 (now (conn .entry)) (now (xs .entry)) (kept (stretches 0 (now (conn .entry))))) r
+        (now (out .entry)) (now (out .exit)) (now (ends .entry)) (now (ends .exit)) ⌝ }
+{
+    let mut corners = [0u8; 256];
+    let mut totals = [0usize; 85];
+    let l = list_phed(conn, &mut corners, &mut totals);
+    let m = l.corners;
+    let f = l.faces;
+    put_faces(&corners[..m], &totals[..f], conn, xs, out, ends)
+}
+
+// The corners whose positions and the faces whose ends are given.
+fn put_faces(
+    corners: &[u8],
+    totals: &[usize],
+    conn: &[u64],
+    xs: &[f64],
+    out: &mut [f64],
+    ends: &mut [usize],
+) -> Kept
+    requires { ⌜ PutsFaces (now corners) (now totals) (now conn) (now xs) (now out) (now ends) ⌝ }
+    ensures { λ r. ⌜ PutFaces (now (corners .entry)) (now (totals .entry)) (now (conn .entry)) (now (xs .entry)) r
+        (now (out .entry)) (now (out .exit)) (now (ends .entry)) (now (ends .exit)) ⌝ }
+{
+    copy_rows(3, conn, xs, corners, out);
+    put(ends, totals);
+    Kept {
+        corners: corners.len(),
+        faces: totals.len(),
+    }
 }
 
 // A cell in the plane: its corners' coordinates go to `out`, which a refusal leaves as it is.
@@ -418,49 +524,11 @@ const HEX: [u8; 24] = [
 
 const HEX_ENDS: [usize; 6] = [4, 8, 12, 16, 20, 24];
 
-// The faces of a cell in space, with their corners' coordinates.
-fn cell_faces(s: Shape, conn: &[u64], xs: &[f64], out: &mut [f64], ends: &mut [usize]) -> Reading
-    requires { ⌜ Ready (now conn) (facesOf s (now conn)) (now out) (now ends) ⌝ }
-    ensures { λ r. ⌜
-        Faced (readFaces 3 (now (conn .entry)) (now (xs .entry)) (facesOf s (now (conn .entry)))) r
-        (now (out .entry)) (now (out .exit)) (now (ends .entry)) (now (ends .exit))
-        ⌝ }
-{
-    match s {
-        Shape::Tet => gather_faces(&TET, &TET_ENDS, conn, xs, out, ends),
-        Shape::Wedge => gather_faces(&WEDGE, &WEDGE_ENDS, conn, xs, out, ends),
-        Shape::Hex => gather_faces(&HEX, &HEX_ENDS, conn, xs, out, ends),
-        Shape::Phed => phed_faces(conn, xs, out, ends),
-    }
-}
-
-// The faces of a polyhedron, with their corners' coordinates.
-fn phed_faces(conn: &[u64], xs: &[f64], out: &mut [f64], ends: &mut [usize]) -> Reading
-    requires { ⌜ Ready (now conn) (kept (stretches 0 (now conn))) (now out) (now ends) ⌝ }
-    ensures { λ r. ⌜
-        Faced (readFaces 3 (now (conn .entry)) (now (xs .entry)) (kept (stretches 0 (now (conn .entry))))) r
-        (now (out .entry)) (now (out .exit)) (now (ends .entry)) (now (ends .exit))
-        ⌝ }
-{
-    let mut corners = [0u8; 256];
-    let mut totals = [0usize; 85];
-    let l = list_phed(conn, &mut corners, &mut totals);
-    let m = l.corners;
-    let f = l.faces;
-    gather_faces(&corners[..m], &totals[..f], conn, xs, out, ends)
-}
-
-// How many positions and faces were listed.
-struct Listing {
-    corners: usize,
-    faces: usize,
-}
-
 // The entry of a polyhedron that ends a face.
 const SEPARATOR: u64 = 0xffff_ffff_ffff_ffff;
 
 // The kept faces of a polyhedron: the positions between separators, without faces of under three.
-fn list_phed(conn: &[u64], corners: &mut [u8; 256], totals: &mut [usize; 85]) -> Listing
+fn list_phed(conn: &[u64], corners: &mut [u8; 256], totals: &mut [usize; 85]) -> Kept
     requires { ⌜ (length (now conn) ≤ 256) × (length (now corners) ≡ 256) × (length (now totals) ≡ 85) ⌝ }
     ensures { λ r. ⌜ Listed (kept (stretches 0 (now (conn .entry)))) (r .corners) (r .faces) (now (corners .exit))
         (now (totals .exit)) ⌝ }
@@ -484,42 +552,16 @@ fn list_phed(conn: &[u64], corners: &mut [u8; 256], totals: &mut [usize; 85]) ->
         }
     }
     if n - start < 3 {
-        return Listing {
+        return Kept {
             corners: start,
             faces: f,
         };
     }
     totals[f] = n;
-    Listing {
+    Kept {
         corners: n,
         faces: f + 1,
     }
-}
-
-// The faces whose positions and ends are given: refusal 4, or their corners' coordinates and their
-// ends written.
-fn gather_faces(
-    corners: &[u8],
-    totals: &[usize],
-    conn: &[u64],
-    xs: &[f64],
-    out: &mut [f64],
-    ends: &mut [usize],
-) -> Reading
-    requires { ⌜ Gathers 3 (now conn) (now corners) (now out) × (length (now totals) ≤ length (now ends)) ⌝ }
-    ensures { λ r. ⌜
-        ReadsFaces (now (corners .entry)) (now (totals .entry)) (now (conn .entry)) (now (xs .entry)) r
-        (now (out .entry)) (now (out .exit)) (now (ends .entry)) (now (ends .exit))
-        ⌝ }
-{
-    if gather(3, conn, xs, corners, out) {
-        put(ends, totals);
-        return Reading::Cell {
-            corners: corners.len(),
-            faces: totals.len(),
-        };
-    }
-    Reading::Refused(4)
 }
 
 // The table written over the start of a slice.

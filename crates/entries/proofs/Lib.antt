@@ -1,7 +1,7 @@
 pub mod Refusals
-pub mod Stitching
 pub mod Seam
 pub mod Segments
-pub mod Reading
 pub mod Answers
 pub mod Claims
+pub mod Copying
+pub mod Cutting

@@ -1,15 +1,14 @@
 -- What the clauses of the code cite, here and in the crates of the entries. Definitions only.
 use mathlib.Core.List.{List}
 use mathlib.Core.Bool.{cond}
+use mathlib.Core.Path.{_≡_}
 use Prim.Native.Nat.{ℕ, _*_, _/_, _≤_}
 use lib.Dec.{eqb}
 use lib.ListN.{length}
 use lib.Ieee.{Float}
 use Rattle.vector.specs.View.{frameOf}
 use Rattle.vector.specs.Vector.{Frame}
-use Rattle.cell.specs.Read.{spaceMost}
-use Rattle.clip.specs.Cell.{atMost}
-use Rattle.clip.specs.Code.{Fit}
+use Rattle.cell.specs.Read.{cornersIn, Accepted}
 use Rattle.entries.specs.Outcome.{Outcome, refused, found, ToldLine}
 use Rattle.entries.specs.declared.Placing as P
 use Rattle.entries.specs.declared.Placing.the-variants as p
@@ -28,14 +27,6 @@ meaning (l.Cut n) = record { refusal = 0; segments = n }
 
 -- ---- what the parts of a cut need
 
--- m corners of faces whose ends are running totals, with room for what is worked out of them: the corners, the clipped points and the
--- segments of a face, and the segments of the cell
-pub record Faces (m : ℕ) (stops : List ℕ) (coords points space segments : List Float) : Type 0 where
-  pub few : m ≤ 256
-  pub fit : Fit 0 stops m (length points) (length space)
-  pub for-corners : 3 * m ≤ length coords
-  pub for-segments : 4 * atMost m ≤ length segments
-
 -- buffers that hold the section of m corners
 pub record Roomy (m : ℕ) (numbers : List Float) (nodes ends : List ℕ) : Type 0 where
   pub for-numbers : 6 * m ≤ length numbers
@@ -46,8 +37,18 @@ pub record Roomy (m : ℕ) (numbers : List Float) (nodes ends : List ℕ) : Type
 abbrev pub faceMost : ℕ → ℕ
 faceMost t = cond (eqb t 18) 256 4
 
--- the faces of a cell of type number t as its reading leaves them: m corners, with ends that are running totals
-pub record FacesRead (t m : ℕ) (stops : List ℕ) (coords : List Float) : Type 0 where
-  pub few : m ≤ spaceMost t
-  pub fit : Fit 0 stops m (3 * atMost (faceMost t)) (6 * atMost (faceMost t))
-  pub for-corners : 3 * m ≤ length coords
+-- ---- what the work on an accepted cell needs
+
+-- its segments have room
+pub record Gathers (t : ℕ) (c : List ℕ) (xs out : List Float) : Type 0 where
+  pub accepted : Accepted t c xs
+  pub room : 6 * cornersIn t c xs ≤ length out
+
+-- its section has room
+pub record Sections (t : ℕ) (c : List ℕ) (xs numbers : List Float) (nodes ends : List ℕ) : Type 0 where
+  pub accepted : Accepted t c xs
+  pub roomy : Roomy (cornersIn t c xs) numbers nodes ends
+
+-- a type number other than PHED's
+abbrev pub Fixed : ℕ → Type 0
+Fixed t = t ≡ 18 → ⊥

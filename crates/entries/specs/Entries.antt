@@ -38,23 +38,32 @@ abbrev pub normalIn : Direction → Outcome Vector
 normalIn nowhere = refused 6
 normalIn (along n) = found n
 
+-- what is done with a cell that was read and a cut that was placed: the polygons, and m, the number of their corners, go to the work.
+-- So the numbers are tested in order.
+abbrev pub cutCell : {A B : Type 0} → R.Read → Outcome B → (ℕ → List Polygon → B → Outcome A) → Outcome A
+cutCell cell by work = andThen (polygonsOf cell) (λ ps. andThen by (work (length (flatten ps)) ps))
+
 -- ---- the plane cut: `section_cell_by_plane` after `slice_3d`'s vectors
+
+-- the segments of polygons on a plane, in the plane's own coordinates
+abbrev pub segmentsOn : Frame → Float → List Polygon → List Seg
+segmentsOn f tol ps = cellSegments (cutBy f tol) f ps
 
 -- the section of polygons by a plane
 abbrev pub sectionOf : Frame → Float → List Polygon → Answer
-sectionOf f tol ps = stitched tol (cellSegments (cutBy f tol) f ps)
+sectionOf f tol ps = stitched tol (segmentsOn f tol ps)
 
 -- 7: the buffers, whose lengths a, b and d are, hold the numbers, nodes and ends of a section of m face corners
 abbrev pub sectionIn : Float → ℕ → ℕ → ℕ → ℕ → List Polygon → Frame → Outcome Answer
 sectionIn tol m a b d ps f = unless 7 (room (6 * m) (3 * m / 2) (m / 2) a b d) (found (sectionOf f tol ps))
 
--- 5 to 7: the section of polygons with m corners by the plane through o with the normal n
-abbrev pub cutPolygons : List Float → List Float → Float → ℕ → ℕ → ℕ → ℕ → List Polygon → Outcome Answer
-cutPolygons o n tol m a b d ps = andThen (placedBy 3 o n (frameIn (planeOf o n))) (sectionIn tol m a b d ps)
+-- the plane through o with the normal n
+abbrev pub planeBy : List Float → List Float → Outcome Frame
+planeBy o n = placedBy 3 o n (frameIn (planeOf o n))
 
 -- of a cell of type t with the connectivity c and the coordinates xs
 abbrev pub planeCut : ℕ → List ℕ → List Float → List Float → List Float → Float → ℕ → ℕ → ℕ → Outcome Answer
-planeCut t c xs o n tol a b d = andThen (polygonsOf (spaceCell t c xs)) (λ ps. cutPolygons o n tol (length (flatten ps)) a b d ps)
+planeCut t c xs o n tol a b d = cutCell (spaceCell t c xs) (planeBy o n) (λ m. sectionIn tol m a b d)
 
 -- ---- the line cut of a cell in space: one cell of `slice_line_3d`
 
@@ -82,12 +91,16 @@ segmentOnLine f (seg a b) = seg (onLine f a) (onLine f b)
 abbrev pub lineOfSection : Frame → Float → Answer → List Seg
 lineOfSection f tol s = map (segmentOnLine f) (loopsSegments tol (s .points) (s .loops))
 
--- by the line through o with the direction d; a is the length of the buffer
+-- 7: the buffer, whose length a is, holds 14 numbers for each face corner
+abbrev pub lineIn : Float → ℕ → ℕ → List Polygon → Frame → Outcome (List Seg)
+lineIn tol a m ps f = unless 7 (leb (14 * m) a) (found (lineOfSection f tol (sectionOf f tol ps)))
+
+-- the plane that holds the line through o with the direction d
+abbrev pub lineBy : List Float → List Float → Outcome Frame
+lineBy o d = placedBy 3 o d (frameIn (lineOf o d))
+
 abbrev pub lineCut : ℕ → List ℕ → List Float → List Float → List Float → Float → ℕ → Outcome (List Seg)
-lineCut t c xs o d tol a =
-    andThen (polygonsOf (spaceCell t c xs)) (λ ps.
-    andThen (placedBy 3 o d (frameIn (lineOf o d))) (λ f.
-    unless 7 (leb (14 * length (flatten ps)) a) (found (lineOfSection f tol (sectionOf f tol ps)))))
+lineCut t c xs o d tol a = cutCell (spaceCell t c xs) (lineBy o d) (lineIn tol a)
 
 -- ---- the line cut of a cell in the plane: one cell of `slice_2d`
 
@@ -99,9 +112,8 @@ polygonSegments l (p ∷ ps) = planeSectionSegments l p
 -- by the line through o whose unit normal `normal` gives for n
 abbrev pub planeCellCut : (List Float → Direction) → ℕ → List ℕ → List Float → List Float → List Float → Float → ℕ → Outcome (List Seg)
 planeCellCut normal t c xs o n tol a =
-    andThen (polygonsOf (planeCell t c xs)) (λ ps.
-    andThen (placedBy 2 o n (normalIn (normal n))) (λ u.
-    unless 7 (leb (6 * length (flatten ps)) a) (found (polygonSegments (record { origin = o; normal = u; tol = tol }) ps))))
+    cutCell (planeCell t c xs) (placedBy 2 o n (normalIn (normal n))) (λ m ps u.
+    unless 7 (leb (6 * m) a) (found (polygonSegments (record { origin = o; normal = u; tol = tol }) ps)))
 
 -- n is a normal, or a direction as `slice_line` takes it
 abbrev pub byNormal : ℕ → List ℕ → List Float → List Float → List Float → Float → ℕ → Outcome (List Seg)

@@ -1,4 +1,3 @@
-pub mod Reading
 pub mod Corners
 pub mod Carrying
 pub mod LoopsCut

@@ -13,10 +13,12 @@ use lib.ListN.{length, take, drop, length-append, length-map}
 use lib.Seq.{take-at}
 use Rattle.vector.specs.Vector.{Vector, Frame}
 use Rattle.vector.specs.Rows.{Seg, endsFrom, rows}
+use Rattle.vector.proofs.Rows.{segs-length}
+use Rattle.cell.specs.Read.{Polygon}
 use Rattle.cell.proofs.Lists.{length-ends}
-use Rattle.clip.specs.Cell.{atMost, cellSegments, corners, cutBy, facesOf}
+use Rattle.clip.specs.Cell.{atMost, cellSegments, corners, cutBy}
 use Rattle.clip.proofs.Bound.{cell-bound}
-use Rattle.clip.specs.Code.{Fit}
+use Rattle.clip.specs.Code.{Segments}
 use Rattle.weld.specs.Weld.{Edge, Within, between, listed, listedEdges, weldedPoints}
 use Rattle.weld.proofs.Edges.{listed-within, newer-unlisted}
 use Rattle.stitch.specs.Claim.{All, lastOr, sides, steps}
@@ -25,10 +27,9 @@ use Rattle.stitch.specs.Stitch.{Answer, stitched}
 use Rattle.stitch.specs.declared.Stitched.{Stitched}
 use Rattle.stitch.proofs.Claim.{claim}
 use Rattle.stitch.proofs.Welded.{cut-ends}
-use Rattle.entries.specs.Entries.{lineOfSection, loopSegments, loopsSegments, sectionOf, segmentOnLine}
-use Rattle.entries.specs.Code.{Roomy}
-use Rattle.entries.proofs.Stitching.{corners-most, few-segments}
-use Rattle.line.specs.Code.{Lent, Loops, Rising, onLineOf}
+use Rattle.entries.specs.Entries.{lineOfSection, loopSegments, loopsSegments, sectionOf, segmentOnLine, segmentsOn}
+use Rattle.entries.proofs.Claims.{corners-in-all}
+use Rattle.line.specs.Code.{Loops, Rising, onLineOf}
 use Rattle.line.specs.Claims.{LineBounded}
 use Rattle.line.proofs.LoopsCut.{loop-bound}
 
@@ -156,32 +157,40 @@ line-bound f tol ps =
     )
 
 -- so they fit the buffer
-pub line-fits : (f : Frame) (tol : Float) (m : ℕ) (stops : List ℕ) (coords : List Float) (a r p q : ℕ) → Fit 0 stops m p q → 14 * m ≤ a
-    → r ≡ length (lineOfSection f tol (sectionOf f tol (facesOf 3 stops coords))) → 3 * (2 * r) ≤ a
-line-fits f tol m stops coords a r p q h room e =
-    omega (arith, line-bound f tol (facesOf 3 stops coords), corners-most 3 0 stops m p q coords h)
+pub line-fits : (f : Frame) (tol : Float) (ps : List Polygon) {numbers out : List Float} {r : ℕ} → 14 * length (flatten ps) ≤ length numbers
+    → Segments 3 numbers (lineOfSection f tol (sectionOf f tol ps)) r out → 3 * (2 * r) ≤ length numbers
+line-fits f tol ps {out = out} {r = r} room g =
+    let e : r ≡ length (lineOfSection f tol (sectionOf f tol ps)) = sym (segs-length 3 r out) ∙ ap length (g .are) in
+    omega (arith, line-bound f tol ps, corners-in-all ps)
 
 -- ---- what the cut of the loops needs
 
-pub loops-ready : (f : Frame) (tol : Float) {m : ℕ} {stops : List ℕ} {coords points space segments : List Float} {welded : List Float}
-    {nodes ends : List ℕ} {r : Stitched} {welded′ segments′ space′ numbers : List Float} {nodes′ ends′ : List ℕ}
-    → Lent m stops coords points space segments → Roomy m welded nodes ends → 14 * m ≤ length numbers
-    → Gave (sectionOf f tol (facesOf 3 stops coords)) r welded welded′ nodes nodes′ ends ends′
-    → length welded′ ≡ length welded → length segments′ ≡ length segments → length space′ ≡ length space
-    → Loops (r .points) welded′ (take (r .nodes) nodes′) (take (r .loops) ends′) coords segments′ space′ numbers
-loops-ready f tol {m = m} {stops = stops} {coords = coords} {points = points} {space = space} {r = r} {nodes′ = nodes′} {ends′ = ends′} h y
-    room g lw lp ls =
-    let ss = cellSegments (cutBy f tol) f (facesOf 3 stops coords) in
+-- scratch for the section and the loops of m corners
+pub record Scratch (m : ℕ) (points polygon clipped flat : List Float) : Type 0 where
+  pub few : m ≤ 256
+  pub for-points : 6 * m ≤ length points
+  pub for-polygon : 3 * m ≤ length polygon
+  pub for-clipped : 2 * atMost (atMost m) ≤ length clipped
+  pub for-flat : 4 * atMost (atMost m) ≤ length flat
+
+pub loops-ready : (f : Frame) (tol : Float) (m : ℕ) (ps : List Polygon) {points : List Float} {nodes ends : List ℕ} {r : Stitched}
+    {points′ polygon clipped flat numbers : List Float} {nodes′ ends′ : List ℕ}
+    → length (flatten ps) ≤ m → Scratch m points′ polygon clipped flat → 14 * length (flatten ps) ≤ length numbers
+    → Gave (sectionOf f tol ps) r points points′ nodes nodes′ ends ends′
+    → Loops (r .points) points′ (take (r .nodes) nodes′) (take (r .loops) ends′) polygon clipped flat numbers
+loops-ready f tol m ps {r = r} {nodes′ = nodes′} {ends′ = ends′} l h room g =
+    let ss = segmentsOn f tol ps in
     let a = stitched tol ss in
-    let few : length ss ≤ atMost m = few-segments (cutBy f tol) f stops coords m (length points) (length space) (h .faces .fit) in
+    let few = cell-bound (cutBy f tol) f ps in
+    let all = corners-in-all ps in
     let c = claim (mul binary64 tol tol) ss in
     let np = c .few-points in
     let nn = c .few-nodes in
     let pc = g .point-count in
-    let m256 = h .faces .few in
-    let w = y .for-numbers in
-    let x = h .faces .for-corners in
-    let p = h .faces .for-segments in
+    let m256 = h .few in
+    let w = h .for-points in
+    let x = h .for-polygon in
+    let p = h .for-clipped in
     let q = h .for-flat in
     let n : length (take (r .nodes) nodes′) ≡ length (flatten (a .loops)) = ap length (nodes-taken g) in
     record {

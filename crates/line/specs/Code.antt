@@ -1,32 +1,19 @@
 -- What the clauses of the code cite. The entry itself is `lineCut` in entries/specs/Entries.antt. Definitions only.
-use mathlib.Core.List.{List, [], _∷_, map, flatten}
+use mathlib.Core.List.{List, [], _∷_, map}
 use Prim.Native.Nat.{ℕ, _*_, _≤_}
-use lib.Dec.{leb}
 use lib.ListN.{length}
 use lib.Ieee.{Float}
 use Rattle.vector.specs.Vector.{Vector, Frame}
 use Rattle.vector.specs.Rows.{Seg}
-use Rattle.cell.specs.Read.{Polygon, spaceCell}
+use Rattle.cell.specs.Read.{cornersIn, Accepted}
 use Rattle.clip.specs.Cell.{atMost}
 use Rattle.stitch.specs.Code.{Below, cut}
-use Rattle.entries.specs.Outcome.{Outcome, found, andThen, unless}
-use Rattle.entries.specs.Entries.{lineOfSection, loopsSegments, polygonsOf, sectionOf, segmentOnLine}
-use Rattle.entries.specs.Code.{Faces}
+use Rattle.entries.specs.Entries.{loopsSegments, segmentOnLine}
 
--- 7, or the line cut of polygons with m corners; a is the length of the buffer
-abbrev pub lineIn : Float → ℕ → ℕ → List Polygon → Frame → Outcome (List Seg)
-lineIn tol m a ps f = unless 7 (leb (14 * m) a) (found (lineOfSection f tol (sectionOf f tol ps)))
-
--- the cut of a cell by a line that is placed already, in a plane that holds it
-abbrev pub cellCut : Outcome Frame → ℕ → List ℕ → List Float → Float → ℕ → Outcome (List Seg)
-cellCut p t c xs tol a =
-    andThen (polygonsOf (spaceCell t c xs)) (λ ps. andThen p (lineIn tol (length (flatten ps)) a ps))
-
--- faces with m corners, and room in the same slices for what is worked out of the section's loops: the slices for the corners and for the
--- cell's segments hold a loop's points and its clipped points
-pub record Lent (m : ℕ) (stops : List ℕ) (coords points space segments : List Float) : Type 0 where
-  pub faces : Faces m stops coords points space segments
-  pub for-flat : 6 * atMost m ≤ length space
+-- what the work on an accepted cell needs: room for its segments
+pub record Lines (t : ℕ) (c : List ℕ) (xs numbers : List Float) : Type 0 where
+  pub accepted : Accepted t c xs
+  pub room : 14 * cornersIn t c xs ≤ length numbers
 
 -- the segments on the line of loops whose nodes stand in a row and end at `ends`
 abbrev pub onLineOf : Frame → Float → List Vector → List ℕ → List ℕ → List Seg

@@ -6,17 +6,17 @@ ghost use lib.ListN.{length};
 ghost use Rattle.vector.specs.Vector.{lineOf};
 ghost use Rattle.vector.specs.View.{frameOf, vec2, vec3};
 ghost use Rattle.vector.specs.Rows.{rows, segs};
-ghost use Rattle.cell.specs.Read.{facesMost, spaceMost};
-ghost use Rattle.clip.specs.Cell.{atMost, facesOf};
+ghost use Rattle.cell.specs.Read.{polygonsIn};
+ghost use Rattle.clip.specs.Cell.{atMost};
 ghost use Rattle.clip.specs.Code.{Points, Segments};
 ghost use Rattle.clip.specs.View.{cut2};
 ghost use Rattle.stitch.specs.Code.{Below};
 ghost use Rattle.stitch.specs.Walk.{pointAt};
-ghost use Rattle.entries.specs.Outcome.{GaveLine, andThen};
+ghost use Rattle.entries.specs.Outcome.{GaveLine};
 ghost use Rattle.entries.specs.Entries.{axis, frameIn, lineCut, lineOfSection, loopSegments, onLine, placedBy, sectionOf};
 ghost use Rattle.entries.specs.Entries.{segmentOnLine};
-ghost use Rattle.entries.specs.Code.{FacesRead, Roomy, meaning, placing};
-ghost use Rattle.line.specs.Code.{Lent, Loop, Loops, cellCut, lineIn, onLineOf};
+ghost use Rattle.entries.specs.Code.{Fixed, meaning, placing};
+ghost use Rattle.line.specs.Code.{Lines, Loop, Loops, onLineOf};
 use cell::Reading;
 use cell::SpaceType;
 use clip::plane::Cut;
@@ -30,7 +30,7 @@ use vector::Vec3;
 // Cuts a single cell in space with the line through origin that has this direction: the segments, six numbers each.
 //
 // The cell is cut by a plane that contains the line, whose in-plane basis makes the line y = 0, and the loops of
-// that section are cut by it. The faces of a polyhedron can have 256 corners, those of every other type at most 24.
+// that section are cut by it.
 pub fn slice_line_3d(
     t: u8,
     conn: &[u64],
@@ -45,193 +45,92 @@ pub fn slice_line_3d(
         (length (now (numbers .entry))))
         (meaning r) (now (numbers .entry)) (now (numbers .exit)) ⌝ }
 {
-    let by = place(origin, direction);
-    if t == SpaceType::PHED {
-        let mut coords = [0.0f64; 768];
-        let mut stops = [0usize; 85];
-        return line_within(t, conn, xs, by, tol, numbers, &mut coords, &mut stops);
-    }
-    let mut coords = [0.0f64; 72];
-    let mut stops = [0usize; 6];
-    line_within(t, conn, xs, by, tol, numbers, &mut coords, &mut stops)
-}
-
-// Refusals 1 to 4, then the cut; the scratch slices are large enough for the type.
-fn line_within(
-    t: u8,
-    conn: &[u64],
-    xs: &[f64],
-    by: Placing,
-    tol: f64,
-    numbers: &mut [f64],
-    coords: &mut [f64],
-    stops: &mut [usize],
-) -> Line
-    requires { ⌜ (3 * spaceMost t ≤ length (now coords)) × (facesMost t ≤ length (now stops)) ⌝ }
-    ensures { λ r. ⌜ GaveLine
-        (cellCut (placing by) t (now (conn .entry)) (now (xs .entry)) tol (length (now (numbers .entry))))
-        (meaning r) (now (numbers .entry)) (now (numbers .exit)) ⌝ }
-{
-    match cell::read_space_cell(t, conn, xs, coords, stops) {
+    match cell::test_space_cell(t, conn, xs) {
         Reading::Refused(k) => Line::Refused(k),
-        Reading::Cell { corners, faces } => {
-            line_faces(t, by, tol, corners, &stops[..faces], numbers, coords)
-        }
+        Reading::Cell { corners, faces: _ } => match place(origin, direction) {
+            Placing::Refused(k) => Line::Refused(k),
+            Placing::On(plane) => {
+                if 14 * corners > numbers.len() {
+                    return Line::Refused(7);
+                }
+                Line::Cut(line_cell(t, conn, xs, plane, tol, numbers))
+            }
+        },
     }
 }
 
-// Refusals 5 to 7, then the cut of faces with m corners, whose coordinates stand in a row.
-fn line_faces(
-    t: u8,
-    by: Placing,
-    tol: f64,
-    m: usize,
-    stops: &[usize],
-    numbers: &mut [f64],
-    coords: &mut [f64],
-) -> Line
-    requires { ⌜ FacesRead t m (now stops) (now coords) ⌝ }
-    ensures { λ r. ⌜ GaveLine
-        (andThen (placing by) (lineIn tol m (length (now (numbers .entry)))
-        (facesOf 3 (now (stops .entry)) (now (coords .entry)))))
-        (meaning r) (now (numbers .entry)) (now (numbers .exit)) ⌝ }
-{
-    match by {
-        Placing::Refused(k) => Line::Refused(k),
-        Placing::On(plane) => {
-            if 14 * m > numbers.len() {
-                return Line::Refused(7);
-            }
-            if t == SpaceType::PHED {
-                return Line::Cut(section_phed(plane, tol, m, stops, numbers, coords));
-            }
-            Line::Cut(section_fixed(plane, tol, m, stops, numbers, coords))
-        }
-    }
-}
-
-// The section of the faces of a polyhedron, and its loops cut: each face can have 256 corners.
-fn section_phed(
-    plane: Plane,
-    tol: f64,
-    m: usize,
-    stops: &[usize],
-    numbers: &mut [f64],
-    coords: &mut [f64],
-) -> usize
-    requires { ⌜ FacesRead 18 m (now stops) (now coords) × (14 * m ≤ length (now numbers)) ⌝ }
+// The cut of an accepted cell by the line y = 0 of a plane. Gives how many segments there are.
+fn line_cell(t: u8, conn: &[u64], xs: &[f64], plane: Plane, tol: f64, numbers: &mut [f64]) -> usize
+    requires { ⌜ Lines t (now conn) (now xs) (now numbers) ⌝ }
     ensures { λ r. ⌜ Segments 3 (now (numbers .entry))
         (lineOfSection (frameOf plane) tol
-        (sectionOf (frameOf plane) tol (facesOf 3 (now (stops .entry)) (now (coords .entry)))))
+        (sectionOf (frameOf plane) tol (polygonsIn t (now (conn .entry)) (now (xs .entry)))))
         r (now (numbers .exit)) ⌝ }
 {
-    let mut points = [0.0f64; 1152];
-    let mut space = [0.0f64; 2304];
-    let mut segments = [0.0f64; 1536];
-    let mut welded = [0.0f64; 1536];
+    if t == SpaceType::PHED {
+        return line_phed(t, conn, xs, plane, tol, numbers);
+    }
+    line_fixed(t, conn, xs, plane, tol, numbers)
+}
+
+// The section of a polyhedron by the plane, and each of its loops cut by y = 0.
+fn line_phed(t: u8, conn: &[u64], xs: &[f64], plane: Plane, tol: f64, numbers: &mut [f64]) -> usize
+    requires { ⌜ Lines t (now conn) (now xs) (now numbers) ⌝ }
+    ensures { λ r. ⌜ Segments 3 (now (numbers .entry))
+        (lineOfSection (frameOf plane) tol
+        (sectionOf (frameOf plane) tol (polygonsIn t (now (conn .entry)) (now (xs .entry)))))
+        r (now (numbers .exit)) ⌝ }
+{
+    let mut points = [0.0f64; 1536];
     let mut nodes = [0u32; 384];
     let mut ends = [0u32; 128];
-    line_section(
-        plane,
-        tol,
-        m,
-        stops,
-        numbers,
-        coords,
-        &mut points,
-        &mut space,
-        &mut segments,
-        &mut welded,
-        &mut nodes,
-        &mut ends,
-    )
-}
-
-// The same for every other type: each face has at most four corners.
-fn section_fixed(
-    plane: Plane,
-    tol: f64,
-    m: usize,
-    stops: &[usize],
-    numbers: &mut [f64],
-    coords: &mut [f64],
-) -> usize
-    requires { ⌜ FacesRead 12 m (now stops) (now coords) × (14 * m ≤ length (now numbers)) ⌝ }
-    ensures { λ r. ⌜ Segments 3 (now (numbers .entry))
-        (lineOfSection (frameOf plane) tol
-        (sectionOf (frameOf plane) tol (facesOf 3 (now (stops .entry)) (now (coords .entry)))))
-        r (now (numbers .exit)) ⌝ }
-{
-    let mut points = [0.0f64; 18];
-    let mut space = [0.0f64; 216];
-    let mut segments = [0.0f64; 144];
-    let mut welded = [0.0f64; 144];
-    let mut nodes = [0u32; 36];
-    let mut ends = [0u32; 12];
-    line_section(
-        plane,
-        tol,
-        m,
-        stops,
-        numbers,
-        coords,
-        &mut points,
-        &mut space,
-        &mut segments,
-        &mut welded,
-        &mut nodes,
-        &mut ends,
-    )
-}
-
-// The section of faces with m corners by a plane, and each of its loops cut by y = 0. What was lent for the corners,
-// and for the segments of the cell and of a face, serves the loops afterwards.
-fn line_section(
-    plane: Plane,
-    tol: f64,
-    m: usize,
-    stops: &[usize],
-    numbers: &mut [f64],
-    coords: &mut [f64],
-    points: &mut [f64],
-    space: &mut [f64],
-    segments: &mut [f64],
-    welded: &mut [f64],
-    nodes: &mut [u32],
-    ends: &mut [u32],
-) -> usize
-    requires { ⌜ Lent m (now stops) (now coords) (now points) (now space) (now segments)
-        × Roomy m (now welded) (now nodes) (now ends) × (14 * m ≤ length (now numbers)) ⌝ }
-    ensures { λ r. ⌜ Segments 3 (now (numbers .entry))
-        (lineOfSection (frameOf plane) tol
-        (sectionOf (frameOf plane) tol (facesOf 3 (now (stops .entry)) (now (coords .entry)))))
-        r (now (numbers .exit)) ⌝ }
-{
-    let s = entries::stitch_faces(
-        plane,
-        tol,
-        m,
-        coords,
-        stops,
-        points,
-        space,
-        segments,
-        welded,
-        nodes,
-        ends,
-    );
+    let mut polygon = [0.0f64; 768];
+    let mut clipped = [0.0f64; 1152];
+    let mut flat = [0.0f64; 2304];
+    let s = entries::section_phed(t, conn, xs, plane, tol, &mut points, &mut nodes, &mut ends);
     let n = s.nodes;
     let f = s.loops;
     cut_loops(
         plane,
         tol,
-        welded,
+        &points,
         s.points,
         &nodes[..n],
         &ends[..f],
-        coords,
-        segments,
-        space,
+        &mut polygon,
+        &mut clipped,
+        &mut flat,
+        numbers,
+    )
+}
+
+// The same for every other type.
+fn line_fixed(t: u8, conn: &[u64], xs: &[f64], plane: Plane, tol: f64, numbers: &mut [f64]) -> usize
+    requires { ⌜ Lines t (now conn) (now xs) (now numbers) × Fixed t ⌝ }
+    ensures { λ r. ⌜ Segments 3 (now (numbers .entry))
+        (lineOfSection (frameOf plane) tol
+        (sectionOf (frameOf plane) tol (polygonsIn t (now (conn .entry)) (now (xs .entry)))))
+        r (now (numbers .exit)) ⌝ }
+{
+    let mut points = [0.0f64; 144];
+    let mut nodes = [0u32; 36];
+    let mut ends = [0u32; 12];
+    let mut polygon = [0.0f64; 72];
+    let mut clipped = [0.0f64; 108];
+    let mut flat = [0.0f64; 216];
+    let s = entries::section_fixed(t, conn, xs, plane, tol, &mut points, &mut nodes, &mut ends);
+    let n = s.nodes;
+    let f = s.loops;
+    cut_loops(
+        plane,
+        tol,
+        &points,
+        s.points,
+        &nodes[..n],
+        &ends[..f],
+        &mut polygon,
+        &mut clipped,
+        &mut flat,
         numbers,
     )
 }

@@ -9,23 +9,23 @@ use lib.Dec.{eqb, leb}
 use lib.Ieee.{Float}
 use lib.ListN.{length}
 use Rattle.vector.specs.Rows.{Seg, rows, over}
-use Rattle.cell.specs.Read.{Polygon, Read, refused, read, Gave, Faced, coordsOf, endsOf, planeCell, planeMost}
+use Rattle.cell.specs.Read.{Polygon, Read, refused, read, Gave, Tested, polygonsRead, coordsOf, planeCell, planeMost}
 use Rattle.cell.specs.declared.Reading.{Reading}
 use Rattle.cell.specs.declared.Reading.the-variants.{Refused, Cell}
 use Rattle.clip.specs.Clip.{Cut, planeSectionSegments}
 use Rattle.entries.specs.Outcome as O
 use Rattle.entries.specs.Entries.{polygonsOf, polygonSegments}
-use Rattle.entries.proofs.Reading as R
+use Rattle.entries.proofs.Cutting as C
 use Rattle.plane_cell.specs.Code.{cellCut, segmentsIn}
 use Rattle.plane_cell.proofs.Seam.{plane-seam}
 
--- ---- by the answer; no ends are written
+-- ---- by the answer
 
-faced : {o : Read} {r : Reading} {out out′ : List Float} → Gave o r out out′ → Faced o r out out′ [] (over (endsOf o) [])
-faced g = record { gave = g; places = refl }
+tells : {o : Read} {r : Reading} {out out′ : List Float} → Gave o r out out′ → Tested o r
+tells g = record { answer = g .answer }
 
 pub was-refused : {o : Read} {r : Reading} {k : ℕ} {out out′ : List Float} → Gave o r out out′ → r ≡ Refused k → o ≡ refused k
-was-refused g e = R.was-refused (faced g) e
+was-refused g e = C.was-refused (tells g) e
 
 -- ---- how large the polygon is, and where it stands
 
@@ -51,17 +51,18 @@ pub record PolygonIn (t : ℕ) (o : Read) (m : ℕ) (out : List Float) : Type 0 
 pub polygon-in : (t : ℕ) (c : List ℕ) (xs : List Float) {r : Reading} {m f : ℕ} {out out′ : List Float} → Gave (planeCell t c xs) r out out′
     → r ≡ Cell m f → PolygonIn t (planeCell t c xs) m out′
 polygon-in t c xs {m = m} {out = out} {out′ = out′} g e =
-    let r = R.was-cell (faced g) e in
-    let ps = r .polygons in
-    let one = plane-seam t c xs ps (r .is) out in
+    let ps = polygonsRead (planeCell t c xs) in
+    let is = C.was-accepted (tells g) e in
+    let corners = C.corners-told (tells g) e in
+    let one = plane-seam t c xs ps is out in
     let p = one .polygon in
-    let n : m ≡ length p = r .corners ∙ one .count in
-    let w : out′ ≡ over (flatten (flatten ps)) out = g .coords ∙ ap (λ o. over (coordsOf o) out) (r .is) in
+    let n : m ≡ length p = corners ∙ one .count in
+    let w : out′ ≡ over (flatten (flatten ps)) out = g .coords ∙ ap (λ o. over (coordsOf o) out) is in
     let back : p ≡ rows 2 m out′ = sym (ap (λ l. rows 2 m l) w ∙ ap (λ k. rows 2 k (over (flatten (flatten ps)) out)) n ∙ one .back) in
     record {
       polygons = ps;
-      is = r .is;
-      corners = r .corners;
+      is = is;
+      corners = corners;
       most = omega (arith, one .most);
       few = omega (arith, one .most, most-256 t);
       segments = λ l. ap (polygonSegments l) (one .is) ∙ ap (planeSectionSegments l) back;

@@ -27,10 +27,10 @@ use Rattle.stitch.specs.Claim.{Claim}
 use Rattle.stitch.proofs.Claim.{claim, counts-listed}
 use Rattle.stitch.proofs.Welded.{read-back}
 use Rattle.entries.specs.Outcome.{Outcome, refused, found, andThen, unless, room, Told, told, toldSection, Gave}
-use Rattle.entries.specs.Entries.{polygonsOf, placedBy, frameIn, sectionIn, sectionOf, cutPolygons, planeCut, lineOfSection, stitchAlone}
+use Rattle.entries.specs.Entries.{polygonsOf, placedBy, frameIn, sectionIn, sectionOf, cutCell, planeBy, planeCut, lineBy, lineIn, stitchAlone}
 use Rattle.entries.specs.Claims.{Sound}
 use Rattle.entries.proofs.Claims.{corners-in-all, sound-frame, sound-reading, sound-then, sound-unless}
-use Rattle.entries.proofs.Reading.{most-256}
+use Rattle.entries.proofs.Copying.{most}
 use Rattle.entries.proofs.Seam.{corners-most}
 use Rattle.section.specs.Claims.{AlikeInSpace, PlaneClaim, PlaneSection, PlaneSound, SectionsSmall, SegmentsBounded}
 use Rattle.section.specs.Claims.{Small, StitchClaim, StitchSection, StitchSound, answerIn, mostSegments}
@@ -52,9 +52,8 @@ segments-bounded t k c xs ps e r f tol =
 pub alike-in-space : AlikeInSpace
 alike-in-space t c c′ xs xs′ ps ps′ r r′ z o n tol a b d =
     let e : spaceCell t c xs ≡ spaceCell t c′ xs′ = alike 3 (spaceKind (spaceType t)) c c′ xs xs′ ps ps′ r r′ z in (
-      ap (λ k. andThen (polygonsOf k) (λ ps. cutPolygons o n tol (length (flatten ps)) a b d ps)) e,
-      ap (λ k. andThen (polygonsOf k) (λ ps. andThen (placedBy 3 o n (frameIn (lineOf o n))) (λ f.
-          unless 7 (leb (14 * length (flatten ps)) a) (found (lineOfSection f tol (sectionOf f tol ps)))))) e,
+      ap (λ k. cutCell k (planeBy o n) (λ m. sectionIn tol m a b d)) e,
+      ap (λ k. cutCell k (lineBy o n) (lineIn tol a)) e,
     )
 
 -- ---- what an entry can answer
@@ -63,13 +62,12 @@ few-of-cell : (t : ℕ) (c : List ℕ) (xs : List Float) (ps : List Polygon) →
     → length (cellSegments (cutBy f tol) f ps) ≤ 384
 few-of-cell t c xs ps r f tol =
     let b : length (cellSegments (cutBy f tol) f ps) ≤ atMost (corners ps) = cell-bound (cutBy f tol) f ps in
-    omega (arith, corners-in-all ps, corners-most t c xs ps r, most-256 t)
+    omega (arith, corners-in-all ps, corners-most t c xs ps r, most t .corners)
 
 pub plane-sound : PlaneSound
 plane-sound t c xs o n tol a b d =
     let P = PlaneSection t c xs o n tol in
-    sound-then 1 7 (λ ps. spaceCell t c xs ≡ read ps) P (polygonsOf (spaceCell t c xs)) (λ ps. cutPolygons o n tol (length (flatten ps)) a b
-    d ps)
+    sound-then 1 7 (λ ps. spaceCell t c xs ≡ read ps) P (polygonsOf (spaceCell t c xs)) (λ ps. andThen (placedBy 3 o n (frameIn (planeOf o n))) (sectionIn tol (length (flatten ps)) a b d ps))
     (sound-reading 3 (spaceKind (spaceType t)) c xs)
     (λ ps r.
     let m = length (flatten ps) in

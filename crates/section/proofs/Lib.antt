@@ -1,4 +1,4 @@
 pub mod Outcomes
-pub mod Reading
+pub mod Steps
 pub mod Claims
 pub mod Table

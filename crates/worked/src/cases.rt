@@ -6,6 +6,7 @@ use crate::show;
 use crate::show::NO_END;
 use crate::show::NO_INDEX;
 use crate::show::NO_NUMBER;
+use cell::Reading;
 
 // The rows of eight nodes, each beginning with its node's number.
 const ROWS: [f64; 24] = [
@@ -47,8 +48,17 @@ pub fn faces(a: u64, b: u64) {
 fn faces_in(conn: &[u64], corners: &mut [f64], ends: &mut [usize])
     requires { ⌜ (771 ≡ length (now corners)) × (86 ≡ length (now ends)) ⌝ }
 {
-    let r = cell::read_space_cell(18, conn, &ROWS, corners, ends);
-    show::faces(r, corners, ends);
+    let r = cell::test_space_cell(18, conn, &ROWS);
+    match r {
+        Reading::Refused(_) => show::faces(r, corners, ends),
+        Reading::Cell {
+            corners: _,
+            faces: _,
+        } => {
+            cell::copy_space_cell(18, conn, &ROWS, corners, ends);
+            show::faces(r, corners, ends);
+        }
+    }
 }
 
 // A cell cut by a plane.
