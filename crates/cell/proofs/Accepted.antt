@@ -1,53 +1,59 @@
--- An accepted cell in space: what is told of it, what copying its faces needs, and that its polygons are what is copied. Assumes nothing.
+-- A cell that is tested and one that is accepted: what is told, what copying its corners needs, and that its polygons are what is copied.
+-- Over the width where both have it. Assumes nothing.
 use mathlib.Core.Path.{_≡_, refl, sym, ap, _∙_, subst}
 use mathlib.Core.List.{List, map, flatten}
-use mathlib.Core.Bool.{Bool, true, false, cond}
-use Prim.Native.Nat.{ℕ, _*_, _/_, _%_, _≤_}
-use lib.Dec.{T, eqb}
+use mathlib.Core.Bool.{Bool, true, false}
+use Prim.Native.Nat.{ℕ, _*_, _/_, _≤_}
+use native.Mathlib.Omega.{arith}
+use lib.Dec.{T}
 use lib.Ieee.{Float}
 use lib.ListN.{length, take}
 use lib.Seq.{length-take-le}
 use Rattle.rows.specs.Rows.{endsFrom, over}
-use Rattle.cell.specs.Types.{allow, spaceType, spaceNodes, shapeOf, shapeIn, shapeNumbered}
-use Rattle.cell.specs.Faces.{Face, facesOf}
-use Rattle.cell.specs.Read.{corner, areRows, polygons, Polygon, Read, read, refused, refusal, counts, meaning, told, Tested, inOrder, readAs, spaceKind}
-use Rattle.cell.specs.Read.{spaceCell, spaceMost, facesMost, polygonsIn, Accepted, Copied}
-use Rattle.cell.specs.Code.{gathered, readFaces, cornersTested, tested, Listed, Testable, Copies, PutsFaces}
+use Rattle.rows.specs.Outcome.{Outcome, refused, found, andThen, unless}
+use Rattle.rows.proofs.Lists.{flatten-map, ends-map, length-ends}
+use Rattle.cell.specs.Types.{allow, spaceNodes, shapeOf, shapeIn, shapeNumbered, planeCorners, cornersTyped, cornersNumbered}
+use Rattle.cell.specs.Faces.{Face, facesOf, polygonOf}
+use Rattle.cell.specs.Read.{corner, areRows, polygons, Polygon, keptOf, readingOf, Tested, Cell, spaceCell, planeCell}
+use Rattle.cell.specs.Read.{polygonsOf, cornersOf, faceCount, Accepted, Copied, CopiedPolygon}
+use Rattle.cell.specs.Code.{below, gathered, readFaces, cornersTested, facesTested, Listed, Testable}
+use Rattle.cell.specs.Code.{Copies, CopiesFaces, CopiesPolygon, PutsFaces}
+use Rattle.cell.specs.declared.Kept.{Kept}
 use Rattle.cell.specs.declared.Reading.{Reading}
 use Rattle.cell.specs.declared.Reading.the-variants.{Refused}
-use Rattle.cell.specs.declared.SpaceType.{SpaceType}
-use Rattle.cell.specs.declared.InSpace as S
-use Rattle.cell.specs.declared.InSpace.the-variants as s
-use Rattle.cell.proofs.Lists.{flatten-map, ends-map, length-ends}
-use Rattle.cell.proofs.Answers.{polygons-size, polygons-count}
-use Rattle.cell.proofs.Bounds.{gathers, nodes-few, ready, refused-unread}
+use Rattle.cell.specs.declared.types.SpaceType.{SpaceType}
+use Rattle.cell.proofs.Answers.{polygons-size, polygons-count, space-read, plane-read}
+use Rattle.cell.proofs.Bounds.{corners-within, nodes-few, plane-few}
 use Rattle.cell.proofs.Inside.{inside}
+use Rattle.cell.proofs.Polygon.{length-polygon, polygon-below}
 
 -- ---- the test
 
 -- a refusal
-pub tells : {o : Read} {k : ℕ} → o ≡ refused k → Tested o (Refused k)
-tells e = rw e (record { answer = refl })
+pub tells : {o : Outcome (List Polygon)} {k : ℕ} → o ≡ refused k → Tested o (Refused k)
+tells e = rw e (record { tells = refl })
 
 -- a test of the faces tells what their reading would
-told-faces : (w : ℕ) (c : List ℕ) (xs : List Float) (fs : List Face) → tested c (length xs / w) fs ≡ told (readFaces w c xs fs)
+told-faces : (w : ℕ) (c : List ℕ) (xs : List Float) (fs : List Face)
+    → facesTested c (length xs / w) fs ≡ andThen (readFaces w c xs fs) (λ ps. found (keptOf ps))
 told-faces w c xs fs = by-test (areRows c (length xs / w) (flatten fs))
   where
-    by-test : (b : Bool) → cond b (counts (length (flatten fs)) (length fs)) (refusal 4) ≡ told (cond b (read (polygons w c xs fs)) (refused 4))
+    by-test : (b : Bool) → unless 4 b (found (record { corners = length (flatten fs); faces = length fs }))
+        ≡ andThen (unless 4 b (found (polygons w c xs fs))) (λ ps. found (keptOf ps))
     by-test true =
-        ap (λ m. counts m (length fs)) (polygons-size w c xs fs)
-        ∙ ap (counts (length (flatten (polygons w c xs fs)))) (polygons-count w c xs fs)
+        ap (λ m. found (record { corners = m; faces = length fs })) (polygons-size w c xs fs)
+        ∙ ap (λ f. found (record { corners = length (flatten (polygons w c xs fs)); faces = f })) (polygons-count w c xs fs)
     by-test false = refl
 
-pub faces-told : (w : ℕ) (c : List ℕ) (xs : List Float) (fs : List Face) {o : Read} {r : Reading} → o ≡ readFaces w c xs fs
-    → meaning r ≡ tested c (length xs / w) fs → Tested o r
-faces-told w c xs fs e h = rw e (record { answer = h ∙ told-faces w c xs fs })
+pub faces-told : (w : ℕ) (c : List ℕ) (xs : List Float) (fs : List Face) {o : Outcome (List Polygon)} {r : Reading}
+    → o ≡ readFaces w c xs fs → readingOf r ≡ facesTested c (length xs / w) fs → Tested o r
+faces-told w c xs fs e h = rw e (record { tells = h ∙ told-faces w c xs fs })
 
 -- the positions that were listed are the faces'
-pub faces-listed : (c : List ℕ) (rows : ℕ) (fs : List Face) (m f : ℕ) (corners totals : List ℕ) → Listed fs m f corners totals
-    → cornersTested c rows (take m corners) f ≡ tested c rows fs
-faces-listed c rows fs m f corners totals l =
-    let n : f ≡ length fs = sym (length-take-le f totals (l .space)) ∙ ap length (l .places) ∙ length-ends 0 fs in
+pub faces-listed : (c : List ℕ) (rows : ℕ) (fs : List Face) (m f : ℕ) (corners ends : List ℕ) → Listed fs m f corners ends
+    → cornersTested c rows (take m corners) f ≡ facesTested c rows fs
+faces-listed c rows fs m f corners ends l =
+    let n : f ≡ length fs = sym (length-take-le f ends (l .space)) ∙ ap length (l .places) ∙ length-ends 0 fs in
     ap (λ ps. cornersTested c rows ps f) (l .positions) ∙ ap (cornersTested c rows (flatten fs)) n
 
 pub testable : (k : SpaceType) (c : List ℕ) → allow (spaceNodes k) (length c) ≡ true → Testable c (facesOf (shapeOf k) c)
@@ -55,52 +61,84 @@ testable k c a = record { few = nodes-few k (length c) a; inside = inside k c a 
 
 -- ---- the copy
 
-module _ (c : List ℕ) (xs : List Float) (fs : List Face) (ps totals : List ℕ) (p : ps ≡ flatten fs) (t : totals ≡ endsFrom 0 fs) where
-  pub puts : (out : List Float) (ends : List ℕ) → Copies c xs fs out ends → PutsFaces ps totals c xs out ends
-  puts out ends h =
-      let g = gathers c fs ps totals out ends (h .ready) p t in
-      record { gathers = g .0; rows = subst (λ l. T (areRows c (length xs / 3) l)) (sym p) (h .rows); space = g .1 }
+-- the corners that were copied are the polygons'
+pub corners-copied : (w : ℕ) (c : List ℕ) (xs : List Float) (fs : List Face) (ps : List ℕ) (out : List Float) → ps ≡ flatten fs
+    → over (gathered w c xs ps) out ≡ over (flatten (flatten (polygons w c xs fs))) out
+corners-copied w c xs fs ps out p =
+    ap (λ l. over (flatten l) out) (ap (map (corner w c xs)) p ∙ sym (flatten-map (corner w c xs) fs))
 
-  pub copied : (out out′ : List Float) (ends ends′ : List ℕ) → out′ ≡ over (gathered 3 c xs ps) out → ends′ ≡ over totals ends
-      → Copied (polygons 3 c xs fs) (record { corners = length ps; faces = length totals }) out out′ ends ends′
-  copied out out′ ends ends′ f q =
+pub copies-at : {w : ℕ} {c : List ℕ} {xs : List Float} {ps qs : List ℕ} {out : List Float} → ps ≡ qs → Copies w c xs qs out
+    → Copies w c xs ps out
+copies-at {w} {c} {xs} {out = out} e h = subst (λ l. Copies w c xs l out) (sym e) h
+
+module _ (c : List ℕ) (xs : List Float) (fs : List Face) (ps es : List ℕ) (p : ps ≡ flatten fs) (q : es ≡ endsFrom 0 fs) where
+  pub puts : (out : List Float) (ends : List ℕ) → CopiesFaces c xs fs out ends → PutsFaces ps es c xs out ends
+  puts out ends h = record { copies = copies-at p (h .copies); space = omega (arith, ap length q, length-ends 0 fs, h .space) }
+
+  pub copied : (out out′ : List Float) (ends ends′ : List ℕ) → out′ ≡ over (gathered 3 c xs ps) out → ends′ ≡ over es ends
+      → Copied (polygons 3 c xs fs) (record { corners = length ps; faces = length es }) out out′ ends ends′
+  copied out out′ ends ends′ f g =
       record {
-        corners = ap length p ∙ polygons-size 3 c xs fs;
-        faces = ap length t ∙ length-ends 0 fs ∙ polygons-count 3 c xs fs;
-        coords = f ∙ ap (λ l. over (flatten l) out) (ap (map (corner 3 c xs)) p ∙ sym (flatten-map (corner 3 c xs) fs));
-        places = q ∙ ap (λ l. over l ends) (t ∙ sym (ends-map (corner 3 c xs) 0 fs));
+        kept-is =
+            ap (λ m. record { corners = m; faces = length es }) (ap length p ∙ polygons-size 3 c xs fs)
+            ∙ ap {B = Kept} (λ f. record { corners = length (flatten (polygons 3 c xs fs)); faces = f })
+            (ap length q ∙ length-ends 0 fs ∙ polygons-count 3 c xs fs);
+        coords = f ∙ corners-copied 3 c xs fs ps out p;
+        places = g ∙ ap (λ l. over l ends) (q ∙ sym (ends-map (corner 3 c xs) 0 fs));
       }
 
 -- ---- what an accepted cell brings along
 
-tests : (a b d : Bool) (ps qs : List Polygon) → inOrder a b d ps ≡ read qs → (a ≡ true) × T d × (ps ≡ qs)
-tests true true true ps qs e = (refl, tt, cc)
-tests true true false ps qs e = absurd (refused-unread 4 qs e)
-tests true false d ps qs e = absurd (refused-unread 3 qs e)
-tests false b d ps qs e = absurd (refused-unread 2 qs e)
+module _ (k : Cell) (a : Accepted (spaceCell k)) where
+  pub copies-space : (out : List Float) (ends : List ℕ) → 3 * cornersOf (spaceCell k) ≤ length out
+      → faceCount (spaceCell k) ≤ length ends
+      → CopiesFaces (k .conn) (k .coords) (facesOf (shapeNumbered (k .number)) (k .conn)) out ends
+  copies-space out ends h l =
+      let q = space-read k (polygonsOf (spaceCell k)) a in
+      let fs = facesOf (shapeOf (q .kind)) (k .conn) in
+      let m : length (flatten fs) ≡ cornersOf (spaceCell k)
+      = polygons-size 3 (k .conn) (k .coords) fs ∙ ap (λ l. length (flatten l)) (sym (q .passed .are)) in
+      let f : length fs ≡ faceCount (spaceCell k) = polygons-count 3 (k .conn) (k .coords) fs ∙ ap length (sym (q .passed .are)) in
+      subst (λ o. CopiesFaces (k .conn) (k .coords) (facesOf (shapeIn o) (k .conn)) out ends) (sym (q .known))
+      (record {
+        few = nodes-few (q .kind) (length (k .conn)) (q .passed .allowed);
+        copies =
+            record {
+              wide = omega arith;
+              inside = inside (q .kind) (k .conn) (q .passed .allowed);
+              are-rows = q .passed .are-rows;
+              room = omega arith;
+            };
+        space = omega arith;
+      })
 
-module _ (t : ℕ) (c : List ℕ) (xs : List Float) (a : Accepted t c xs) where
-  module _ (out : List Float) (ends : List ℕ) (h : 3 * spaceMost t ≤ length out) (l : facesMost t ≤ length ends) where
-    by-type : (o : S.InSpace) → spaceType t ≡ o → Copies c xs (facesOf (shapeIn o) c) out ends
-    unfolding readAs
-    by-type s.Unknown e = absurd (refused-unread 1 _ (ap (λ o. readAs 3 (spaceKind o) c xs) (sym e) ∙ a))
-    by-type (s.Known k) e =
-        let fs = facesOf (shapeOf k) c in
-        let q =
-        tests (allow (spaceNodes k) (length c)) (eqb (length xs % 3) 0) (areRows c (length xs / 3) (flatten fs)) (polygons 3 c xs fs) _
-        (ap (λ o. readAs 3 (spaceKind o) c xs) (sym e) ∙ a) in
-        record { ready = ready t k c out ends e (q .0) h l; rows = q .1 }
+  pub space-polygons : polygons 3 (k .conn) (k .coords) (facesOf (shapeNumbered (k .number)) (k .conn)) ≡ polygonsOf (spaceCell k)
+  space-polygons =
+      let q = space-read k (polygonsOf (spaceCell k)) a in
+      ap (λ o. polygons 3 (k .conn) (k .coords) (facesOf (shapeIn o) (k .conn))) (q .known) ∙ sym (q .passed .are)
 
-    pub copies : Copies c xs (facesOf (shapeNumbered t) c) out ends
-    copies = by-type (spaceType t) refl
+module _ (k : Cell) (a : Accepted (planeCell k)) where
+  pub copies-plane : (out : List Float) → 2 * cornersOf (planeCell k) ≤ length out
+      → CopiesPolygon (k .conn) (k .coords) (cornersNumbered (k .number) (length (k .conn))) out
+  copies-plane out h =
+      let q = plane-read k (polygonsOf (planeCell k)) a in
+      let n = planeCorners (q .kind) (length (k .conn)) in
+      let m : length (flatten (polygonOf n)) ≡ cornersOf (planeCell k)
+      = polygons-size 2 (k .conn) (k .coords) (polygonOf n) ∙ ap (λ l. length (flatten l)) (sym (q .passed .are)) in
+      subst (λ o. CopiesPolygon (k .conn) (k .coords) (cornersTyped o (length (k .conn))) out) (sym (q .known))
+      (record {
+        few = plane-few (q .kind) (length (k .conn)) (q .passed .allowed);
+        copies =
+            record {
+              wide = omega arith;
+              inside = polygon-below (length (k .conn)) n (corners-within (q .kind) (length (k .conn)) (q .passed .allowed));
+              are-rows = q .passed .are-rows;
+              room = omega arith;
+            };
+      })
 
-  polygons-by : (o : S.InSpace) → spaceType t ≡ o → polygons 3 c xs (facesOf (shapeIn o) c) ≡ polygonsIn t c xs
-  unfolding readAs
-  polygons-by s.Unknown e = absurd (refused-unread 1 _ (ap (λ o. readAs 3 (spaceKind o) c xs) (sym e) ∙ a))
-  polygons-by (s.Known k) e =
-      let fs = facesOf (shapeOf k) c in
-      tests (allow (spaceNodes k) (length c)) (eqb (length xs % 3) 0) (areRows c (length xs / 3) (flatten fs)) (polygons 3 c xs fs) _
-      (ap (λ o. readAs 3 (spaceKind o) c xs) (sym e) ∙ a) .2
-
-  pub polygons-are : polygons 3 c xs (facesOf (shapeNumbered t) c) ≡ polygonsIn t c xs
-  polygons-are = polygons-by (spaceType t) refl
+  pub plane-polygons
+      : polygons 2 (k .conn) (k .coords) (polygonOf (cornersNumbered (k .number) (length (k .conn)))) ≡ polygonsOf (planeCell k)
+  plane-polygons =
+      let q = plane-read k (polygonsOf (planeCell k)) a in
+      ap (λ o. polygons 2 (k .conn) (k .coords) (polygonOf (cornersTyped o (length (k .conn))))) (q .known) ∙ sym (q .passed .are)

@@ -1,5 +1,5 @@
 -- Two accepted cells with the same corners, face by face, are read alike, whatever their mid-side nodes hold. Assumes nothing.
-use mathlib.Core.Path.{_≡_, refl, sym, ap, _∙_, subst}
+use mathlib.Core.Path.{_≡_, refl, sym, ap, _∙_}
 use mathlib.Core.List.{List, [], _∷_, _++_, map, flatten, map-append}
 use Prim.Native.Nat.{ℕ, _<_}
 use native.Mathlib.Omega.{arith}
@@ -8,16 +8,17 @@ use lib.Ieee.{Float}
 use lib.Ieee.Fits.{and-l, and-r}
 use lib.ListN.{length, take, drop, length-map}
 use lib.Seq.{take-at, drop-at}
-use Rattle.cell.specs.Types.{spaceType, spaceCorners, planeType, planeCorners}
-use Rattle.cell.specs.Faces.{polygonOf}
-use Rattle.cell.specs.Read.{corner, Polygon, Kind, none, kind, read, readAs, spaceKind, planeKind}
+use Rattle.rows.specs.Outcome.{found}
+use Rattle.rows.proofs.Outcomes.{never-both}
+use Rattle.cell.specs.Types.{spaceCorners, planeCorners}
+use Rattle.cell.specs.Read.{corner, Typed, untyped, typed, readAs, typedInSpace, typedInPlane}
 use Rattle.cell.specs.Code.{below}
-use Rattle.cell.specs.Claims.{facesAs, Alike, SameFirst, SpaceMidSidesFree, PlaneMidSidesFree}
-use Rattle.cell.specs.declared.InSpace.the-variants as s
-use Rattle.cell.specs.declared.InPlane.the-variants as p
+use Rattle.cell.specs.Claims.{facesAs, Alike, AmongFirst, MidSidesFree, SpaceMidSidesFree, PlaneMidSidesFree}
+use Rattle.cell.specs.declared.types.InSpace.the-variants as s
+use Rattle.cell.specs.declared.types.InPlane.the-variants as p
 use Rattle.cell.proofs.Inside.{among-corners}
 use Rattle.cell.proofs.Polygon.{polygon-below}
-use Rattle.cell.proofs.Bounds.{accepted, refused-unread}
+use Rattle.cell.proofs.Answers.{passed}
 
 sizes-differ : (n : ℕ) (l : List ℕ) → n ∷ l ≡ [] → ⊥
 sizes-differ n l e = let z : _≡_ {A = ℕ} 0 1 = cc in omega arith
@@ -47,13 +48,13 @@ module _ {A B : Type 0} (g : A → B) (h : A → B) where
 
 -- ---- the claims
 
-pub alike : (w : ℕ) (k : Kind) → Alike w k
+pub alike : (w : ℕ) (k : Typed) → Alike w k
 unfolding readAs
-alike w none c c′ xs xs′ ps ps′ r r′ z = absurd (refused-unread 1 ps r)
-alike w (kind n faces) c c′ xs xs′ ps ps′ r r′ z =
-    let a = accepted w (kind n faces) n faces c xs ps refl r in
-    let b = accepted w (kind n faces) n faces c′ xs′ ps′ refl r′ in
-    r ∙ ap read (a .1 ∙ regroup (corner w c xs) (corner w c′ xs′) (faces c) (faces c′) (z .sizes) (z .coordinates) ∙ sym (b .1)) ∙ sym r′
+alike w untyped c c′ xs xs′ ps ps′ r r′ z = absurd (never-both r)
+alike w (typed n faces) c c′ xs xs′ ps ps′ r r′ z =
+    let a = passed w n faces c xs ps r .are in
+    let b = passed w n faces c′ xs′ ps′ r′ .are in
+    r ∙ ap found (a ∙ regroup (corner w c xs) (corner w c′ xs′) (faces c) (faces c′) (z .sizes) (z .coordinates) ∙ sym b) ∙ sym r′
 
 same-below : (g h : ℕ → List Float) (n : ℕ) (ps : List ℕ) → T (below n ps) → ((p : ℕ) → p < n → g p ≡ h p) → map g ps ≡ map h ps
 unfolding below
@@ -62,30 +63,21 @@ same-below g h n (p ∷ ps) b e =
     let k : p < n = ltb→lt p n (and-l (ltb p n) (below n ps) b) in
     ap (λ r. r ∷ map g ps) (e p k) ∙ ap (λ l. h p ∷ l) (same-below g h n ps (and-r (ltb p n) (below n ps) b) e)
 
--- where the faces are the same and stand among the first n positions, those decide
-first-alike : (w : ℕ) (k : Kind) (n : ℕ) (c c′ : List ℕ) (xs xs′ : List Float) (ps ps′ : List Polygon) → readAs w k c xs ≡ read ps
-    → readAs w k c′ xs′ ≡ read ps′ → facesAs k c ≡ facesAs k c′ → T (below n (flatten (facesAs k c))) → SameFirst w n c c′ xs xs′
-    → readAs w k c xs ≡ readAs w k c′ xs′
-first-alike w k n c c′ xs xs′ ps ps′ r r′ f b z =
+-- where the faces are the same and stand among the first nodes, those decide
+pub mid-sides-free : (w : ℕ) (k : Typed) (corners : ℕ → ℕ) → AmongFirst k corners → MidSidesFree w k corners
+mid-sides-free w k corners b c c′ xs xs′ ps ps′ r r′ f z =
     alike w k c c′ xs xs′ ps ps′ r r′
     (record {
       sizes = ap (map length) f;
       coordinates =
-          same-below (corner w c xs) (corner w c′ xs′) n (flatten (facesAs k c)) b z
+          same-below (corner w c xs) (corner w c′ xs′) (corners (length c)) (flatten (facesAs k c)) (b c) z
           ∙ ap (λ l. map (corner w c′ xs′) (flatten l)) f;
     })
 
 pub space-mid-sides-free : SpaceMidSidesFree
-space-mid-sides-free t k c c′ xs xs′ ps ps′ e r r′ f z =
-    let q : spaceKind (spaceType t) ≡ spaceKind (s.Known k) = ap spaceKind e in
-    let n = spaceCorners k (length c) in
-    first-alike 3 (spaceKind (spaceType t)) n c c′ xs xs′ ps ps′ r r′
-    (subst (λ d. facesAs d c ≡ facesAs d c′) (sym q) f) (subst (λ d. T (below n (flatten (facesAs d c)))) (sym q) (among-corners k c)) z
+space-mid-sides-free t = mid-sides-free 3 (typedInSpace (s.Known t)) (spaceCorners t) (among-corners t)
 
 pub plane-mid-sides-free : PlaneMidSidesFree
-plane-mid-sides-free t k c c′ xs xs′ ps ps′ e r r′ f z =
-    let q : planeKind (planeType t) ≡ planeKind (p.Known k) = ap planeKind e in
-    let n = planeCorners k (length c) in
-    first-alike 2 (planeKind (planeType t)) n c c′ xs xs′ ps ps′ r r′
-    (subst (λ d. facesAs d c ≡ facesAs d c′) (sym q) (ap polygonOf f))
-    (subst (λ d. T (below n (flatten (facesAs d c)))) (sym q) (polygon-below n n (omega arith))) z
+plane-mid-sides-free t =
+    mid-sides-free 2 (typedInPlane (p.Known t)) (planeCorners t)
+    (λ c. polygon-below (planeCorners t (length c)) (planeCorners t (length c)) (omega arith))

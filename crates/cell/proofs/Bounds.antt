@@ -1,32 +1,26 @@
--- How many corners and faces an accepted cell has, and the room that its reading needs. Assumes nothing.
+-- How many corners and faces an accepted cell has. Assumes nothing.
 use mathlib.Core.Path.{_≡_, refl, sym, ap, _∙_, subst}
 use mathlib.Core.List.{List, [], _∷_, _++_, flatten}
 use mathlib.Core.Bool.{Bool, true, false, cond}
-use Prim.Native.Nat.{ℕ, suc, _*_, _%_, _/_, _≤_}
+use Prim.Native.Nat.{ℕ, suc, _*_, _≤_}
 use native.Mathlib.Omega.{arith}
 use borrow.Author.Tests.{eqb-true, leb-true, ltb-false}
-use lib.Dec.{T, eqb, ltb}
-use lib.Ieee.{Float}
+use lib.Dec.{eqb, ltb}
 use lib.ListN.{length, length-append}
-use Rattle.rows.specs.Rows.{endsFrom}
+use Rattle.rows.specs.Outcome.{found}
 use Rattle.cell.specs.Types.{allow, spaceNumber, spaceType, spaceNodes, shapeOf, planeNumber, planeType, planeNodes, planeCorners}
 use Rattle.cell.specs.Faces.{Face, separator, onto, stretches, kept, facesOf, polygonOf}
-use Rattle.cell.specs.Read.{areRows, Polygon, polygons, Kind, kind, refused, read, inOrder, readAs, spaceKind, planeKind}
-use Rattle.cell.specs.Read.{spaceMost, facesMost, planeMost}
-use Rattle.cell.specs.Code.{below, Gathers, Ready}
+use Rattle.cell.specs.Read.{Polygon, Cell, spaceCell, planeCell}
 use Rattle.cell.specs.Claims.{SpaceBounds, SpaceBounded, PlaneBounded}
-use Rattle.cell.specs.declared.Nodes.{Nodes}
-use Rattle.cell.specs.declared.SpaceType.{SpaceType}
-use Rattle.cell.specs.declared.SpaceType.the-variants.{Tet4, Tet10, Hex8, Hex21, Wedge6, Wedge15, Phed}
-use Rattle.cell.specs.declared.PlaneType.{PlaneType}
-use Rattle.cell.specs.declared.PlaneType.the-variants.{Tri3, Tri6, Tri7, Quad4, Quad8, Quad9, Pgon}
-use Rattle.cell.specs.declared.InSpace as S
-use Rattle.cell.specs.declared.InSpace.the-variants as s
-use Rattle.cell.specs.declared.InPlane as P
-use Rattle.cell.specs.declared.InPlane.the-variants as p
-use Rattle.cell.proofs.Lists.{length-ends}
-use Rattle.cell.proofs.Answers.{polygons-size, polygons-count}
-use Rattle.cell.proofs.Inside.{inside}
+use Rattle.cell.specs.declared.types.SpaceType.{SpaceType}
+use Rattle.cell.specs.declared.types.SpaceType.the-variants.{Tet4, Tet10, Hex8, Hex21, Wedge6, Wedge15, Phed}
+use Rattle.cell.specs.declared.types.PlaneType.{PlaneType}
+use Rattle.cell.specs.declared.types.PlaneType.the-variants.{Tri3, Tri6, Tri7, Quad4, Quad8, Quad9, Pgon}
+use Rattle.cell.specs.declared.types.InSpace as S
+use Rattle.cell.specs.declared.types.InSpace.the-variants as s
+use Rattle.cell.specs.declared.types.InPlane as P
+use Rattle.cell.specs.declared.types.InPlane.the-variants as p
+use Rattle.cell.proofs.Answers.{polygons-size, polygons-count, SpaceRead, space-read, PlaneRead, plane-read}
 use Rattle.cell.proofs.Polygon.{length-polygon}
 
 -- ---- the faces of a polyhedron
@@ -77,8 +71,8 @@ nodes-few Wedge15 n e = omega (arith, eqb-true n 15 e)
 nodes-few Phed n e = leb-true n 256 e
 
 module _ (c : List ℕ) where
-  phed-few : length c ≤ 256 → length (flatten (kept (stretches 0 c))) ≤ 256
-  phed-few h = omega (arith, size-kept (stretches 0 c), size-stretches 0 c)
+  pub phed-few : length (flatten (kept (stretches 0 c))) ≤ length c
+  phed-few = omega (arith, size-kept (stretches 0 c), size-stretches 0 c)
 
   faces-bounds : (k : SpaceType) → allow (spaceNodes k) (length c) ≡ true
       → SpaceBounds (shapeOf k) (length (flatten (facesOf (shapeOf k) c))) (length (facesOf (shapeOf k) c))
@@ -89,71 +83,47 @@ module _ (c : List ℕ) where
   faces-bounds Hex21 e = record { corners = refl; faces = omega arith }
   faces-bounds Wedge6 e = record { corners = refl; faces = omega arith }
   faces-bounds Wedge15 e = record { corners = refl; faces = omega arith }
-  faces-bounds Phed e = record { corners = phed-few (leb-true (length c) 256 e); faces = threes-kept (stretches 0 c) }
-
-  corners-most : (k : SpaceType) → allow (spaceNodes k) (length c) ≡ true
-      → length (flatten (facesOf (shapeOf k) c)) ≤ spaceMost (spaceNumber k)
-  unfolding flatten
-  corners-most Tet4 e = omega arith
-  corners-most Tet10 e = omega arith
-  corners-most Hex8 e = omega arith
-  corners-most Hex21 e = omega arith
-  corners-most Wedge6 e = omega arith
-  corners-most Wedge15 e = omega arith
-  corners-most Phed e = phed-few (leb-true (length c) 256 e)
-
-  faces-most : (k : SpaceType) → allow (spaceNodes k) (length c) ≡ true → length (facesOf (shapeOf k) c) ≤ facesMost (spaceNumber k)
-  faces-most Tet4 e = omega arith
-  faces-most Tet10 e = omega arith
-  faces-most Hex8 e = omega arith
-  faces-most Hex21 e = omega arith
-  faces-most Wedge6 e = omega arith
-  faces-most Wedge15 e = omega arith
-  faces-most Phed e = omega (arith, phed-few (leb-true (length c) 256 e), threes-kept (stretches 0 c))
+  faces-bounds Phed e = record { corners = omega (arith, phed-few, leb-true (length c) 256 e); faces = threes-kept (stretches 0 c) }
 
 -- ---- a type found by its number has that number
 
-abbrev Numbered : ℕ → S.InSpace → Type 0
-Numbered t (s.Known k) = t ≡ spaceNumber k
-Numbered t s.Unknown = Unit {0}
+-- what a chain of tests by number gives
+by-number : {X : Type 0} (N : X → Type 0) (t n : ℕ) (k r : X) → (t ≡ n → N k) → N r → N (cond (eqb t n) k r)
+by-number N t n k r e h = either (eqb t n) refl
+  where
+    either : (b : Bool) → eqb t n ≡ b → N (cond b k r)
+    either true q = e (eqb-true t n q)
+    either false q = h
 
-module _ (t : ℕ) where
-  numbered : (n : ℕ) (k : SpaceType) (r : S.InSpace) → n ≡ spaceNumber k → Numbered t r → Numbered t (cond (eqb t n) (s.Known k) r)
-  numbered n k r e h = either (eqb t n) refl
-    where
-      either : (b : Bool) → eqb t n ≡ b → Numbered t (cond b (s.Known k) r)
-      either true q = eqb-true t n q ∙ e
-      either false q = h
+abbrev InSpaceAs : ℕ → S.InSpace → Type 0
+InSpaceAs t (s.Known k) = t ≡ spaceNumber k
+InSpaceAs t s.Unknown = Unit {0}
 
-  space-numbered : Numbered t (spaceType t)
-  unfolding spaceType
-  space-numbered =
-      numbered 12 Tet4 _ refl (numbered 13 Tet10 _ refl (numbered 14 Hex8 _ refl (numbered 15 Hex21 _ refl
-      (numbered 16 Wedge6 _ refl (numbered 17 Wedge15 _ refl (numbered 18 Phed _ refl tt))))))
+pub space-number : (t : ℕ) (k : SpaceType) → spaceType t ≡ s.Known k → t ≡ spaceNumber k
+unfolding spaceType
+space-number t k e =
+    subst (InSpaceAs t) e
+    (next 12 (s.Known Tet4) _ (λ e. e) (next 13 (s.Known Tet10) _ (λ e. e) (next 14 (s.Known Hex8) _ (λ e. e)
+    (next 15 (s.Known Hex21) _ (λ e. e) (next 16 (s.Known Wedge6) _ (λ e. e) (next 17 (s.Known Wedge15) _ (λ e. e)
+    (next 18 (s.Known Phed) _ (λ e. e) tt)))))))
+  where
+    next : (n : ℕ) (k r : S.InSpace) → (t ≡ n → InSpaceAs t k) → InSpaceAs t r → InSpaceAs t (cond (eqb t n) k r)
+    next = by-number (InSpaceAs t) t
 
-  pub space-number : (k : SpaceType) → spaceType t ≡ s.Known k → t ≡ spaceNumber k
-  space-number k e = subst (Numbered t) e space-numbered
+abbrev InPlaneAs : ℕ → P.InPlane → Type 0
+InPlaneAs t (p.Known k) = t ≡ planeNumber k
+InPlaneAs t p.Unknown = Unit {0}
 
--- what the faces' reading needs is there
-pub ready : (t : ℕ) (k : SpaceType) (c : List ℕ) (out : List Float) (ends : List ℕ) → spaceType t ≡ s.Known k
-    → allow (spaceNodes k) (length c) ≡ true → 3 * spaceMost t ≤ length out → facesMost t ≤ length ends
-    → Ready c (facesOf (shapeOf k) c) out ends
-ready t k c out ends e a h l =
-    let n : t ≡ spaceNumber k = space-number t k e in
-    let m : length (flatten (facesOf (shapeOf k) c)) ≤ spaceMost t = rw n (corners-most c k a) in
-    let f : length (facesOf (shapeOf k) c) ≤ facesMost t = rw n (faces-most c k a) in
-    record { few = nodes-few k (length c) a; inside = inside k c a; room = omega arith; space = omega arith }
-
-pub gathers : (c : List ℕ) (fs : List Face) (ps totals : List ℕ) (out : List Float) (ends : List ℕ) → Ready c fs out ends
-    → ps ≡ flatten fs → totals ≡ endsFrom 0 fs → Gathers 3 c ps out × (length totals ≤ length ends)
-gathers c fs ps totals out ends h p t = (
-  record {
-    wide = omega arith;
-    inside = subst (λ l. T (below (length c) l)) (sym p) (h .inside);
-    room = omega (arith, ap length p, h .room);
-  },
-  omega (arith, ap length t, length-ends 0 fs, h .space),
-)
+pub plane-number : (t : ℕ) (k : PlaneType) → planeType t ≡ p.Known k → t ≡ planeNumber k
+unfolding planeType
+plane-number t k e =
+    subst (InPlaneAs t) e
+    (next 5 (p.Known Tri3) _ (λ e. e) (next 6 (p.Known Tri6) _ (λ e. e) (next 7 (p.Known Tri7) _ (λ e. e)
+    (next 8 (p.Known Quad4) _ (λ e. e) (next 9 (p.Known Quad8) _ (λ e. e) (next 10 (p.Known Quad9) _ (λ e. e)
+    (next 11 (p.Known Pgon) _ (λ e. e) tt)))))))
+  where
+    next : (n : ℕ) (k r : P.InPlane) → (t ≡ n → InPlaneAs t k) → InPlaneAs t r → InPlaneAs t (cond (eqb t n) k r)
+    next = by-number (InPlaneAs t) t
 
 -- ---- every type in the plane
 
@@ -166,82 +136,40 @@ corners-within Quad8 n e = omega (arith, eqb-true n 8 e)
 corners-within Quad9 n e = omega (arith, eqb-true n 9 e)
 corners-within Pgon n e = omega arith
 
-corners-room : (k : PlaneType) (n : ℕ) → allow (planeNodes k) n ≡ true → planeCorners k n ≤ planeMost (planeNumber k)
-corners-room Tri3 n e = omega arith
-corners-room Tri6 n e = omega arith
-corners-room Tri7 n e = omega arith
-corners-room Quad4 n e = omega arith
-corners-room Quad8 n e = omega arith
-corners-room Quad9 n e = omega arith
-corners-room Pgon n e = leb-true n 256 e
-
-most-256 : (t : ℕ) → planeMost t ≤ 256
-most-256 t = either (eqb t 11)
-  where
-    either : (b : Bool) → cond b 256 4 ≤ 256
-    either true = omega arith
-    either false = omega arith
-
-abbrev NumberedIn : ℕ → P.InPlane → Type 0
-NumberedIn t (p.Known k) = t ≡ planeNumber k
-NumberedIn t p.Unknown = Unit {0}
-
-module _ (t : ℕ) where
-  numbered-in : (n : ℕ) (k : PlaneType) (r : P.InPlane) → n ≡ planeNumber k → NumberedIn t r
-      → NumberedIn t (cond (eqb t n) (p.Known k) r)
-  numbered-in n k r e h = either (eqb t n) refl
-    where
-      either : (b : Bool) → eqb t n ≡ b → NumberedIn t (cond b (p.Known k) r)
-      either true q = eqb-true t n q ∙ e
-      either false q = h
-
-  plane-numbered : NumberedIn t (planeType t)
-  unfolding planeType
-  plane-numbered =
-      numbered-in 5 Tri3 _ refl (numbered-in 6 Tri6 _ refl (numbered-in 7 Tri7 _ refl (numbered-in 8 Quad4 _ refl
-      (numbered-in 9 Quad8 _ refl (numbered-in 10 Quad9 _ refl (numbered-in 11 Pgon _ refl tt))))))
-
-  pub plane-number : (k : PlaneType) → planeType t ≡ p.Known k → t ≡ planeNumber k
-  plane-number k e = subst (NumberedIn t) e plane-numbered
-
-  pub plane-room : (k : PlaneType) (n : ℕ) → planeType t ≡ p.Known k → allow (planeNodes k) n ≡ true → planeCorners k n ≤ planeMost t
-  plane-room k n e a = let q : t ≡ planeNumber k = plane-number k e in rw q (corners-room k n a)
-
-  pub plane-few : (k : PlaneType) (n : ℕ) → planeType t ≡ p.Known k → allow (planeNodes k) n ≡ true → planeCorners k n ≤ 256
-  plane-few k n e a = omega (arith, plane-room k n e a, most-256 t)
+pub plane-few : (k : PlaneType) (n : ℕ) → allow (planeNodes k) n ≡ true → planeCorners k n ≤ 256
+plane-few Tri3 n e = omega arith
+plane-few Tri6 n e = omega arith
+plane-few Tri7 n e = omega arith
+plane-few Quad4 n e = omega arith
+plane-few Quad8 n e = omega arith
+plane-few Quad9 n e = omega arith
+plane-few Pgon n e = leb-true n 256 e
 
 -- ---- an accepted cell
 
-pub refused-unread : (k : ℕ) (ps : List Polygon) → refused k ≡ read ps → ⊥
-refused-unread k ps e = let z : _≡_ {A = ℕ} 0 1 = cc in omega arith
+-- the bounds of the type that was read
+pub space-bounds : (k : Cell) (ps : List Polygon) (r : SpaceRead k ps) → SpaceBounds (shapeOf (r .kind)) (length (flatten ps)) (length ps)
+space-bounds k ps r =
+    let fs = facesOf (shapeOf (r .kind)) (k .conn) in
+    let e = r .passed .are in
+    let m : length (flatten fs) ≡ length (flatten ps)
+    = polygons-size 3 (k .conn) (k .coords) fs ∙ ap (λ l. length (flatten l)) (sym e) in
+    let f : length fs ≡ length ps = polygons-count 3 (k .conn) (k .coords) fs ∙ ap length (sym e) in
+    subst (λ n. SpaceBounds (shapeOf (r .kind)) n (length ps)) m
+    (subst (λ n. SpaceBounds (shapeOf (r .kind)) (length (flatten fs)) n) f (faces-bounds (k .conn) (r .kind) (r .passed .allowed)))
 
-choice : (a b d : Bool) (ps qs : List Polygon) → inOrder a b d ps ≡ read qs
-    → (a ≡ true) × (qs ≡ ps)
-choice true true true ps qs e = (refl, cc)
-choice true true false ps qs e = absurd (refused-unread 4 qs e)
-choice true false d ps qs e = absurd (refused-unread 3 qs e)
-choice false b d ps qs e = absurd (refused-unread 2 qs e)
-
-pub accepted : (w : ℕ) (k : Kind) (n : Nodes) (faces : List ℕ → List Face) (c : List ℕ) (xs : List Float) (ps : List Polygon)
-    → k ≡ kind n faces → readAs w k c xs ≡ read ps → (allow n (length c) ≡ true) × (ps ≡ polygons w c xs (faces c))
-unfolding readAs
-accepted w k n faces c xs ps e r =
-    choice (allow n (length c)) (eqb (length xs % w) 0) (areRows c (length xs / w) (flatten (faces c))) (polygons w c xs (faces c)) ps
-    (ap (λ k. readAs w k c xs) (sym e) ∙ r)
+same-space : (t u : SpaceType) (o : S.InSpace) → o ≡ s.Known t → o ≡ s.Known u → t ≡ u
+same-space t u o e f = cc
 
 pub space-bounded : SpaceBounded
-space-bounded t k c xs ps e r =
-    let fs = facesOf (shapeOf k) c in
-    let a = accepted 3 (spaceKind (spaceType t)) (spaceNodes k) (facesOf (shapeOf k)) c xs ps (ap spaceKind e) r in
-    let m : length (flatten fs) ≡ length (flatten ps) = polygons-size 3 c xs fs ∙ ap (λ l. length (flatten l)) (sym (a .1)) in
-    let f : length fs ≡ length ps = polygons-count 3 c xs fs ∙ ap length (sym (a .1)) in
-    subst (λ n. SpaceBounds (shapeOf k) n (length ps)) m
-    (subst (λ n. SpaceBounds (shapeOf k) (length (flatten fs)) n) f (faces-bounds c k (a .0)))
+space-bounded k t ps e r =
+    let q = space-read k ps r in
+    subst (λ t. SpaceBounds (shapeOf t) (length (flatten ps)) (length ps)) (same-space (q .kind) t _ (q .known) e) (space-bounds k ps q)
 
 pub plane-bounded : PlaneBounded
-plane-bounded t k c xs ps e r =
-    let n = planeCorners k (length c) in
-    let a = accepted 2 (planeKind (planeType t)) (planeNodes k) (λ c. polygonOf (planeCorners k (length c))) c xs ps (ap planeKind e) r in
+plane-bounded k ps r =
+    let q = plane-read k ps r in
+    let n = planeCorners (q .kind) (length (k .conn)) in
     let m : length (flatten ps) ≡ n
-    = ap (λ l. length (flatten l)) (a .1) ∙ sym (polygons-size 2 c xs (polygonOf n)) ∙ length-polygon n in
-    record { corners = m; most = omega (arith, plane-few t k (length c) e (a .0)); faces = ap length (a .1) }
+    = ap (λ l. length (flatten l)) (q .passed .are) ∙ sym (polygons-size 2 (k .conn) (k .coords) (polygonOf n)) ∙ length-polygon n in
+    record { kind = q .kind; known = q .known; corners = m; most = omega (arith, plane-few (q .kind) (length (k .conn)) (q .passed .allowed)); faces = ap length (q .passed .are) }

@@ -11,11 +11,11 @@ use lib.Dec.{T, ltb, ltb→lt}
 use lib.Ieee.{Float}
 use lib.Ieee.Fits.{and-l, and-r}
 use lib.ListN.{length, getD, take, drop, length-append, length-drop, drop-of-length-le}
-use lib.Seq.{drop-cons, take-suc, take-all, take-at, drop-at, take-length, drop-drop, length-take-le, paste}
+use lib.Seq.{drop-cons, take-suc, take-all, length-take-le, paste}
 use Rattle.rows.specs.Rows.{over, row}
 use Rattle.cell.specs.Read.{corner, areRows}
 use Rattle.cell.specs.Code.{gathered}
-use Rattle.cell.proofs.Lists.{flatten-snoc}
+use Rattle.rows.proofs.Lists.{flatten-snoc, over-more}
 
 -- ---- the test
 
@@ -63,16 +63,6 @@ module _ (w : ℕ) (xs : List Float) (n : ℕ) (h : n < length xs / w) where
   row-is = let e : w * n + w - w * n ≡ w = omega arith in ap (λ k. take k (drop (w * n) xs)) e
 
 -- ---- the corners' rows, one after the other
-
-over-more : (g s out₀ out : List Float) (a : ℕ) → length g ≡ a → out ≡ over g out₀ → paste out a s (length s) ≡ over (g ++ s) out₀
-over-more g s out₀ out a e f =
-    let before : take a out ≡ g = ap (take a) f ∙ take-at g (drop (length g) out₀) a e in
-    let after : drop (a + length s) out ≡ drop (length (g ++ s)) out₀
-    = sym (drop-drop (length s) a out) ∙ ap (λ l. drop (length s) (drop a l)) f
-    ∙ ap (drop (length s)) (drop-at g (drop (length g) out₀) a e) ∙ drop-drop (length s) (length g) out₀
-    ∙ ap (λ k. drop k out₀) (sym (length-append g s)) in
-    ap (λ l. l ++ take (length s) s ++ drop (a + length s) out) before
-    ∙ ap (λ l. g ++ l ++ drop (a + length s) out) (take-length s) ∙ ap (λ l. g ++ s ++ l) after
 
 gathered-snoc : (w : ℕ) (c : List ℕ) (xs : List Float) (ps : List ℕ) (p : ℕ)
     → gathered w c xs (ps ++ p ∷ []) ≡ gathered w c xs ps ++ corner w c xs p

@@ -11,8 +11,8 @@ use lib.ListN.{length, getD}
 use Rattle.cell.specs.Types.{allow, spaceNodes, spaceCorners, shapeOf}
 use Rattle.cell.specs.Faces.{Face, separator, onto, stretches, kept, facesOf}
 use Rattle.cell.specs.Code.{below}
-use Rattle.cell.specs.declared.SpaceType.{SpaceType}
-use Rattle.cell.specs.declared.SpaceType.the-variants.{Tet4, Tet10, Hex8, Hex21, Wedge6, Wedge15, Phed}
+use Rattle.cell.specs.declared.types.SpaceType.{SpaceType}
+use Rattle.cell.specs.declared.types.SpaceType.the-variants.{Tet4, Tet10, Hex8, Hex21, Wedge6, Wedge15, Phed}
 
 pub below-at : (n : ℕ) (ps : List ℕ) (i : ℕ) → T (below n ps) → i < length ps → getD ps i 0 < n
 unfolding below

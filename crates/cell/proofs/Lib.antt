@@ -1,4 +1,3 @@
-pub mod Lists
 pub mod Polyhedron
 pub mod Inside
 pub mod Gathering
@@ -6,5 +5,4 @@ pub mod Answers
 pub mod Polygon
 pub mod Bounds
 pub mod Alike
-pub mod Worked
 pub mod Accepted

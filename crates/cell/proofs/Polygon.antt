@@ -1,23 +1,22 @@
 -- The positions of a polygon's corners, from 0 on: listed one by one or taken from a table. Assumes nothing.
 use mathlib.Core.Path.{_≡_, refl, sym, ap, _∙_, subst}
 use mathlib.Core.List.{List, [], _∷_, _++_, append-nil, flatten}
-use Prim.Native.Nat.{ℕ, zero, suc, _+_, _*_, _≤_, _<_}
+use Prim.Native.Nat.{ℕ, zero, suc, _+_, _≤_, _<_}
 use native.Mathlib.Omega.{arith}
 use native.Mathlib.Nat.{add-zero, zero-add}
 use native.Mathlib.Numerals.{add-one}
 use lib.Dec.{T, ltb, lt→ltb}
-use lib.Ieee.{Float}
 use lib.Ieee.Fits.{and-i}
 use lib.ListN.{length, take, set}
 use lib.Seq.{take-suc-set}
 use Rattle.cell.specs.Faces.{from, polygonOf}
-use Rattle.cell.specs.Code.{below, Gathers}
+use Rattle.cell.specs.Code.{below}
 
 polygon-flat : (n : ℕ) → flatten (polygonOf n) ≡ from 0 n
 unfolding flatten
 polygon-flat n = append-nil (from 0 n)
 
-length-from : (k n : ℕ) → length (from k n) ≡ n
+pub length-from : (k n : ℕ) → length (from k n) ≡ n
 unfolding from
 length-from k zero = refl
 length-from k (suc n) = ap suc (length-from (suc k) n)
@@ -57,7 +56,7 @@ take-from k (suc n) (suc m) h = ap (λ l. k ∷ l) (take-from (suc k) n m (omega
 pub polygon-taken : (n m : ℕ) (l : List ℕ) → l ≡ from 0 m → n ≤ m → take n l ≡ flatten (polygonOf n)
 polygon-taken n m l e h = ap (take n) e ∙ take-from 0 n m h ∙ sym (polygon-flat n)
 
--- ---- what their gathering needs
+-- ---- they are positions of the connectivity
 
 below-from : (n k m : ℕ) → k + m ≤ n → T (below n (from k m))
 unfolding below from
@@ -67,11 +66,5 @@ below-from n k (suc m) h = and-i (ltb k n) (below n (from (suc k) m)) (lt→ltb 
 pub polygon-below : (m n : ℕ) → n ≤ m → T (below m (flatten (polygonOf n)))
 polygon-below m n h = subst (λ l. T (below m l)) (sym (polygon-flat n)) (below-from m 0 n (omega arith))
 
-pub polygon-gathers : (n : ℕ) (c ps : List ℕ) (out : List Float) → ps ≡ flatten (polygonOf n) → n ≤ length c → 2 * n ≤ length out
-    → Gathers 2 c ps out
-polygon-gathers n c ps out e h r =
-    record {
-      wide = omega arith;
-      inside = subst (λ l. T (below (length c) l)) (sym e) (polygon-below (length c) n h);
-      room = omega (arith, ap length e, length-polygon n);
-    }
+pub listed-below : (m n : ℕ) (ps : List ℕ) → ps ≡ flatten (polygonOf n) → n ≤ m → T (below m ps)
+listed-below m n ps e h = subst (λ l. T (below m l)) (sym e) (polygon-below m n h)

@@ -13,7 +13,7 @@ use lib.Seq.{drop-cons, take-suc-set, take-take, take-at, drop-length}
 use Rattle.rows.specs.Rows.{endsFrom}
 use Rattle.cell.specs.Faces.{Face, separator, onto, stretches, kept}
 use Rattle.cell.specs.Code.{Listed}
-use Rattle.cell.proofs.Lists.{length-snoc, flatten-snoc, ends-snoc}
+use Rattle.rows.proofs.Lists.{length-snoc, flatten-snoc, ends-snoc}
 
 -- the open face's positions put in front of the stretches that follow
 abbrev onAll : Face → List Face → List Face
@@ -21,10 +21,10 @@ onAll c [] = c ∷ []
 onAll c (f ∷ fs) = (c ++ f) ∷ fs
 
 -- before entry i: `done` are the faces kept so far, f of them with s corners, and `cur` is the open face, n corners standing in all
-pub record Split (conn corners totals : List ℕ) (n s f i : ℕ) (done : List Face) (cur : Face) : Type 0 where
+pub record Split (conn corners ends : List ℕ) (n s f i : ℕ) (done : List Face) (cur : Face) : Type 0 where
   pub told : kept (stretches 0 conn) ≡ done ++ kept (onAll cur (stretches i (drop i conn)))
   pub written : take n corners ≡ flatten done ++ cur
-  pub places : take f totals ≡ endsFrom 0 done
+  pub places : take f ends ≡ endsFrom 0 done
   pub start-is : s ≡ length (flatten done)
   pub count-is : n ≡ s + length cur
   pub low : n ≤ i
@@ -32,12 +32,12 @@ pub record Split (conn corners totals : List ℕ) (n s f i : ℕ) (done : List F
   pub few : 3 * f ≤ s
   pub most : length conn ≤ 256
   pub room : length corners ≡ 256
-  pub space : length totals ≡ 85
+  pub space : length ends ≡ 85
 
-pub record Going (conn corners totals : List ℕ) (n s f i : ℕ) : Type 0 where
+pub record Going (conn corners ends : List ℕ) (n s f i : ℕ) : Type 0 where
   pub done : List Face
   pub cur : Face
-  pub split : Split conn corners totals n s f i done cur
+  pub split : Split conn corners ends n s f i done cur
 
 -- ---- one entry more
 
@@ -74,10 +74,10 @@ on-onto : (c : Face) (k : ℕ) (r : List Face) → onAll c (onto k r) ≡ onAll 
 on-onto c k [] = refl
 on-onto c k (f ∷ fs) = ap (λ g. g ∷ fs) (sym (append-assoc c (k ∷ []) f))
 
-module _ (conn corners totals : List ℕ) (n s f i : ℕ) where
+module _ (conn corners ends : List ℕ) (n s f i : ℕ) where
   -- a node joins the open face
-  pub node : Going conn corners totals n s f i → i < length conn → (getD conn i 0 ≡ separator → ⊥)
-      → Going conn (set corners n i) totals (n + 1) s f (i + 1)
+  pub node : Going conn corners ends n s f i → i < length conn → (getD conn i 0 ≡ separator → ⊥)
+      → Going conn (set corners n i) ends (n + 1) s f (i + 1)
   node g h e =
       let p = g .split in
       let x : eqb (getD conn i 0) separator ≡ false = ne-eqb _ _ e in
@@ -106,14 +106,14 @@ module _ (conn corners totals : List ℕ) (n s f i : ℕ) where
         };
       }
 
-  flat-done : (g : Going conn corners totals n s f i) → take s corners ≡ flatten (g .done)
+  flat-done : (g : Going conn corners ends n s f i) → take s corners ≡ flatten (g .done)
   flat-done g =
       let p = g .split in
       let k : s ≤ n = omega (arith, p .count-is) in
       sym (take-take s n corners k) ∙ ap (take s) (p .written) ∙ take-at (flatten (g .done)) (g .cur) s (sym (p .start-is))
 
   -- the faces, where entry i is a separator
-  apart : (g : Going conn corners totals n s f i) → i < length conn → getD conn i 0 ≡ separator
+  apart : (g : Going conn corners ends n s f i) → i < length conn → getD conn i 0 ≡ separator
       → kept (stretches 0 conn) ≡ g .done ++ kept (g .cur ∷ stretches (suc i) (drop (suc i) conn))
   apart g h e =
       g .split .told ∙ ap (λ l. g .done ++ kept (onAll (g .cur) (stretches i l))) (drop-cons conn i 0 h)
@@ -127,8 +127,8 @@ module _ (conn corners totals : List ℕ) (n s f i : ℕ) where
       (sym (kept-nil (stretches (suc i) (drop (suc i) conn))) ∙ ap (λ k. kept (onAll [] (stretches k (drop k conn)))) (sym (add-one i)))
 
   -- a separator drops an open face of under three
-  pub short : Going conn corners totals n s f i → i < length conn → getD conn i 0 ≡ separator → n - s < 3
-      → Going conn corners totals s s f (i + 1)
+  pub short : Going conn corners ends n s f i → i < length conn → getD conn i 0 ≡ separator → n - s < 3
+      → Going conn corners ends s s f (i + 1)
   short g h e k =
       let p = g .split in
       let c : length (g .cur) < 3 = omega (arith, p .count-is) in
@@ -151,18 +151,18 @@ module _ (conn corners totals : List ℕ) (n s f i : ℕ) where
         };
       }
 
-  closed : (g : Going conn corners totals n s f i) → 3 ≤ n - s
-      → take (f + 1) (set totals f n) ≡ endsFrom 0 (g .done ++ g .cur ∷ [])
+  closed : (g : Going conn corners ends n s f i) → 3 ≤ n - s
+      → take (f + 1) (set ends f n) ≡ endsFrom 0 (g .done ++ g .cur ∷ [])
   closed g k =
       let p = g .split in
-      let h : f < length totals = omega (arith, p .few, p .low, p .count-is, p .within, p .most, p .space) in
+      let h : f < length ends = omega (arith, p .few, p .low, p .count-is, p .within, p .most, p .space) in
       let e : n ≡ 0 + length (flatten (g .done)) + length (g .cur) = omega (arith, p .count-is, p .start-is) in
-      ap (λ k. take k (set totals f n)) (add-one f) ∙ take-suc-set totals f n h ∙ ap (λ l. l ++ n ∷ []) (p .places)
+      ap (λ k. take k (set ends f n)) (add-one f) ∙ take-suc-set ends f n h ∙ ap (λ l. l ++ n ∷ []) (p .places)
       ∙ ap (λ k. endsFrom 0 (g .done) ++ k ∷ []) e ∙ sym (ends-snoc 0 (g .done) (g .cur))
 
   -- a separator closes an open face of three or more
-  pub whole : Going conn corners totals n s f i → i < length conn → getD conn i 0 ≡ separator → 3 ≤ n - s
-      → Going conn corners (set totals f n) n n (f + 1) (i + 1)
+  pub whole : Going conn corners ends n s f i → i < length conn → getD conn i 0 ≡ separator → 3 ≤ n - s
+      → Going conn corners (set ends f n) n n (f + 1) (i + 1)
   whole g h e k =
       let p = g .split in
       let c : 3 ≤ length (g .cur) = omega (arith, p .count-is) in
@@ -186,13 +186,13 @@ module _ (conn corners totals : List ℕ) (n s f i : ℕ) where
           few = omega (arith, p .few, p .count-is);
           most = p .most;
           room = p .room;
-          space = length-set totals f n ∙ p .space;
+          space = length-set ends f n ∙ p .space;
         };
       }
 
   -- ---- at the end of the list
 
-  over : (g : Going conn corners totals n s f i) → length conn ≤ i → kept (stretches 0 conn) ≡ g .done ++ kept (g .cur ∷ [])
+  over : (g : Going conn corners ends n s f i) → length conn ≤ i → kept (stretches 0 conn) ≡ g .done ++ kept (g .cur ∷ [])
   over g h =
       let e : i ≡ length conn = omega (arith, g .split .within) in
       g .split .told ∙ ap (λ k. g .done ++ kept (onAll (g .cur) (stretches i (drop k conn)))) e
@@ -200,8 +200,8 @@ module _ (conn corners totals : List ℕ) (n s f i : ℕ) where
       ∙ ap (λ l. g .done ++ kept (onAll (g .cur) l)) (stretches-nil i)
       ∙ ap (λ l. g .done ++ kept (l ∷ [])) (append-nil (g .cur))
 
-  pub end-short : (g : Going conn corners totals n s f i) → length conn ≤ i → n - s < 3
-      → Listed (kept (stretches 0 conn)) s f corners totals
+  pub end-short : (g : Going conn corners ends n s f i) → length conn ≤ i → n - s < 3
+      → Listed (kept (stretches 0 conn)) s f corners ends
   end-short g h k =
       let p = g .split in
       let c : length (g .cur) < 3 = omega (arith, p .count-is) in
@@ -214,8 +214,8 @@ module _ (conn corners totals : List ℕ) (n s f i : ℕ) where
         space = omega (arith, p .few, p .count-is, p .low, p .within, p .most, p .space);
       }
 
-  pub end-whole : (g : Going conn corners totals n s f i) → length conn ≤ i → 3 ≤ n - s
-      → Listed (kept (stretches 0 conn)) n (f + 1) corners (set totals f n)
+  pub end-whole : (g : Going conn corners ends n s f i) → length conn ≤ i → 3 ≤ n - s
+      → Listed (kept (stretches 0 conn)) n (f + 1) corners (set ends f n)
   end-whole g h k =
       let p = g .split in
       let c : 3 ≤ length (g .cur) = omega (arith, p .count-is) in
@@ -225,13 +225,13 @@ module _ (conn corners totals : List ℕ) (n s f i : ℕ) where
         positions = p .written ∙ sym (flatten-snoc (g .done) (g .cur)) ∙ ap flatten (sym e);
         places = closed g k ∙ ap (endsFrom 0) (sym e);
         room = omega (arith, p .low, p .within, p .most, p .room);
-        space = omega (arith, length-set totals f n, p .few, p .count-is, p .low, p .within, p .most, p .space);
+        space = omega (arith, length-set ends f n, p .few, p .count-is, p .low, p .within, p .most, p .space);
       }
 
-pub begin : (conn corners totals : List ℕ) → length conn ≤ 256 → length corners ≡ 256 → length totals ≡ 85
-    → Going conn corners totals 0 0 0 0
+pub begin : (conn corners ends : List ℕ) → length conn ≤ 256 → length corners ≡ 256 → length ends ≡ 85
+    → Going conn corners ends 0 0 0 0
 unfolding flatten endsFrom
-begin conn corners totals a b d =
+begin conn corners ends a b d =
     record {
       done = [];
       cur = [];

@@ -4,8 +4,8 @@ use mathlib.Core.List.{List, [], _∷_}
 use mathlib.Core.Bool.{cond}
 use lib.Dec.{eqb, ltb}
 use lib.ListN.{length}
-use Rattle.cell.specs.declared.Shape.{Shape}
-use Rattle.cell.specs.declared.Shape.the-variants.{Tet, Wedge, Hex, Phed}
+use Rattle.cell.specs.declared.types.Shape.{Shape}
+use Rattle.cell.specs.declared.types.Shape.the-variants.{Tet, Wedge, Hex, Phed}
 
 -- the positions of a face's corners, in order around it
 abbrev pub Face : Type 0

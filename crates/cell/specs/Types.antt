@@ -2,18 +2,18 @@
 use Prim.Native.Nat.{ℕ}
 use mathlib.Core.Bool.{Bool, cond}
 use lib.Dec.{eqb, leb}
-use Rattle.cell.specs.declared.Nodes.{Nodes}
-use Rattle.cell.specs.declared.Nodes.the-variants.{Exactly, AtMost}
-use Rattle.cell.specs.declared.SpaceType.{SpaceType}
-use Rattle.cell.specs.declared.SpaceType.the-variants.{Tet4, Tet10, Hex8, Hex21, Wedge6, Wedge15, Phed}
-use Rattle.cell.specs.declared.PlaneType.{PlaneType}
-use Rattle.cell.specs.declared.PlaneType.the-variants.{Tri3, Tri6, Tri7, Quad4, Quad8, Quad9, Pgon}
-use Rattle.cell.specs.declared.InSpace as S
-use Rattle.cell.specs.declared.InSpace.the-variants as s
-use Rattle.cell.specs.declared.InPlane as P
-use Rattle.cell.specs.declared.InPlane.the-variants as p
-use Rattle.cell.specs.declared.Shape.{Shape}
-use Rattle.cell.specs.declared.Shape.the-variants as h
+use Rattle.cell.specs.declared.types.Nodes.{Nodes}
+use Rattle.cell.specs.declared.types.Nodes.the-variants.{Exactly, AtMost}
+use Rattle.cell.specs.declared.types.SpaceType.{SpaceType}
+use Rattle.cell.specs.declared.types.SpaceType.the-variants.{Tet4, Tet10, Hex8, Hex21, Wedge6, Wedge15, Phed}
+use Rattle.cell.specs.declared.types.PlaneType.{PlaneType}
+use Rattle.cell.specs.declared.types.PlaneType.the-variants.{Tri3, Tri6, Tri7, Quad4, Quad8, Quad9, Pgon}
+use Rattle.cell.specs.declared.types.InSpace as S
+use Rattle.cell.specs.declared.types.InSpace.the-variants as s
+use Rattle.cell.specs.declared.types.InPlane as P
+use Rattle.cell.specs.declared.types.InPlane.the-variants as p
+use Rattle.cell.specs.declared.types.Shape.{Shape}
+use Rattle.cell.specs.declared.types.Shape.the-variants as h
 
 -- whether n nodes are as many as a type has
 abbrev pub allow : Nodes → ℕ → Bool
@@ -123,3 +123,11 @@ planeCorners Quad4 n = 4
 planeCorners Quad8 n = 4
 planeCorners Quad9 n = 4
 planeCorners Pgon n = n
+
+-- the corner count of the type with a number; of a number that has none all n nodes
+abbrev pub cornersTyped : P.InPlane → ℕ → ℕ
+cornersTyped (p.Known k) n = planeCorners k n
+cornersTyped p.Unknown n = n
+
+abbrev pub cornersNumbered : ℕ → ℕ → ℕ
+cornersNumbered t n = cornersTyped (planeType t) n

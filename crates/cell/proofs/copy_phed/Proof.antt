@@ -15,8 +15,8 @@ array-share-prefix-corners c = search needs
 slice-aggregate-put-faces : tie.Need-slice-aggregate-put-faces
 slice-aggregate-put-faces c = sym (length-take-le _ _ (c .before .list-phed .ensures .room))
 
-array-share-prefix-totals : tie.Need-array-share-prefix-totals
-array-share-prefix-totals c = search needs
+array-share-prefix-ends : tie.Need-array-share-prefix-ends
+array-share-prefix-ends c = search needs
 
 slice-aggregate-put-faces-2 : tie.Need-slice-aggregate-put-faces-2
 slice-aggregate-put-faces-2 c = sym (length-take-le _ _ (c .before .before .list-phed .ensures .space))
@@ -40,7 +40,7 @@ copy-phed-spec =
     list-phed-requires
     array-share-prefix-corners
     slice-aggregate-put-faces
-    array-share-prefix-totals
+    array-share-prefix-ends
     slice-aggregate-put-faces-2
     put-faces-requires
     same-length

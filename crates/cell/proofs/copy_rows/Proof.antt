@@ -24,7 +24,7 @@ start-of c = loop-of c .before .before .before .before .before
 is-row : (c : tie.After-node Inv-loop μ-loop) → c .node .result < length (start-of c .args .xs .now) / start-of c .args .w
 is-row c =
     subst (λ n. n < length (start-of c .args .xs .now) / start-of c .args .w) (sym (c .node .ensures))
-    (row-at _ _ _ (loop-of c .loop .j) (start-of c .pre .1) (omega arith))
+    (row-at _ _ _ (loop-of c .loop .j) (start-of c .pre .are-rows) (omega arith))
 
 row-within : (c : tie.After-node Inv-loop μ-loop) → start-of c .args .w * c .node .result + start-of c .args .w ≤ length (start-of c .args .xs .now)
 row-within c = row-fits (start-of c .args .w) (start-of c .args .xs .now) (c .node .result) (is-row c)
@@ -35,7 +35,7 @@ room c =
     omega (
       arith,
       one-more (g .w) (loop-of c .loop .j) (length (g .corners .now)) (omega arith),
-      start-of c .pre .0 .room,
+      start-of c .pre .room,
       loop-of c .loop .inv .same,
     )
 
@@ -46,7 +46,7 @@ shared-slice-read-node : tie.Need-shared-slice-read-node Inv-loop μ-loop
 shared-slice-read-node c = omega arith
 
 node-requires : tie.Need-node-requires Inv-loop μ-loop
-node-requires c κs = below-at _ _ (c .before .before .loop .j) (c .before .before .before .before .before .before .before .pre .0 .inside) (omega arith)
+node-requires c κs = below-at _ _ (c .before .before .loop .j) (c .before .before .before .before .before .before .before .pre .inside) (omega arith)
 
 mul-a : tie.Need-mul-a Inv-loop μ-loop
 mul-a c = omega (arith, row-within c)

@@ -7,10 +7,10 @@ use Rattle.cell.proofs.list_phed.Statement.{statement}
 use Rattle.cell.proofs.list_phed.Tie as tie
 
 abbrev Inv-loop : tie.InvT-loop
-Inv-loop conn corners₀ totals₀ n₀ start₀ f₀ i₀ corners totals n start f i = Going conn corners totals n start f i
+Inv-loop conn corners₀ ends₀ n₀ start₀ f₀ i₀ corners ends n start f i = Going conn corners ends n start f i
 
 abbrev μ-loop : tie.MeasureT-loop
-μ-loop conn corners₀ totals₀ n₀ start₀ f₀ i₀ corners totals n start f i = length conn - i
+μ-loop conn corners₀ ends₀ n₀ start₀ f₀ i₀ corners ends n start f i = length conn - i
 
 loop-holds : tie.Need-loop-holds Inv-loop μ-loop
 loop-holds c = begin _ _ _ (c .pre .0) (c .pre .1) (c .pre .2)
@@ -52,11 +52,11 @@ loop-again-2 c =
     let v = c .before .before .before .before .loop in
     short _ _ _ _ _ _ (v .i) (v .inv) (omega arith) (c .before .if1 .left) (c .if2 .taken)
 
-mul-totals : tie.Need-mul-totals Inv-loop μ-loop
-mul-totals c = omega arith
+mul-ends : tie.Need-mul-ends Inv-loop μ-loop
+mul-ends c = omega arith
 
-element-write-totals : tie.Need-element-write-totals Inv-loop μ-loop
-element-write-totals c = omega arith
+element-write-ends : tie.Need-element-write-ends Inv-loop μ-loop
+element-write-ends c = omega arith
 
 add-f : tie.Need-add-f Inv-loop μ-loop
 add-f c = omega arith
@@ -77,11 +77,11 @@ returns c =
     let v = c .before .before .loop in
     end-short _ _ _ _ _ _ (v .i) (v .inv) (omega arith) (c .if3 .taken)
 
-mul-totals-2 : tie.Need-mul-totals-2 Inv-loop μ-loop
-mul-totals-2 c = omega arith
+mul-ends-2 : tie.Need-mul-ends-2 Inv-loop μ-loop
+mul-ends-2 c = omega arith
 
-element-write-totals-2 : tie.Need-element-write-totals-2 Inv-loop μ-loop
-element-write-totals-2 c = omega arith
+element-write-ends-2 : tie.Need-element-write-ends-2 Inv-loop μ-loop
+element-write-ends-2 c = omega arith
 
 add-t21 : tie.Need-add-t21 Inv-loop μ-loop
 add-t21 c = omega arith
@@ -109,14 +109,14 @@ list-phed-spec =
     sub-if2
     loop-less-2
     loop-again-2
-    mul-totals
-    element-write-totals
+    mul-ends
+    element-write-ends
     add-f
     loop-less-3
     loop-again-3
     sub-if3
     returns
-    mul-totals-2
-    element-write-totals-2
+    mul-ends-2
+    element-write-ends-2
     add-t21
     returns-2)

@@ -5,7 +5,7 @@ use native.Mathlib.Nat.{zero-add}
 use native.Mathlib.Numerals.{add-one}
 use lib.ListN.{length, getD, set, length-set}
 use lib.Seq.{paste, paste-zero, paste-suc}
-use Rattle.cell.proofs.Lists.{paste-over}
+use Rattle.rows.proofs.Lists.{paste-over}
 use native.Mathlib.Omega.{arith}
 use Rattle.cell.proofs.put.Statement.{statement}
 use Rattle.cell.proofs.put.Tie as tie

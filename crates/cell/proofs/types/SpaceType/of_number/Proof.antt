@@ -1,8 +1,8 @@
 -- `SpaceType::of_number` meets its contract. Assumes nothing.
 use borrow.Author.Tests.{ne-eqb}
 use Rattle.cell.specs.Types.{spaceType}
-use Rattle.cell.proofs.SpaceType.of_number.Statement.{statement}
-use Rattle.cell.proofs.SpaceType.of_number.Tie as tie
+use Rattle.cell.proofs.types.SpaceType.of_number.Statement.{statement}
+use Rattle.cell.proofs.types.SpaceType.of_number.Tie as tie
 
 returns : tie.Need-returns
 unfolding spaceType

@@ -4,9 +4,9 @@ use mathlib.Core.List.{List, [], _∷_, _++_, append-assoc, append-nil, map, fla
 use Prim.Native.Nat.{ℕ, suc, _+_}
 use native.Mathlib.Omega.{arith}
 use native.Mathlib.Nat.{add-zero, zero-add}
-use lib.ListN.{length, drop, length-append, length-map}
-use lib.Seq.{paste, take-length}
+use lib.ListN.{length, take, drop, length-append, length-map}
+use lib.Seq.{paste, take-at, drop-at, take-length, drop-drop}
 use Rattle.rows.specs.Rows.{endsFrom, over}
 
 pub length-snoc : {A : Type 0} (l : List A) (x : A) → length (l ++ x ∷ []) ≡ length l + 1
 length-snoc l x = length-append l (x ∷ [])
@@ -43,3 +43,24 @@ length-ends n (l ∷ ls) = ap suc (length-ends (n + length l) ls)
 
 pub paste-over : {A : Type 0} (ws xs : List A) → paste xs 0 ws (length ws) ≡ over ws xs
 paste-over ws xs = ap (λ l. l ++ drop (0 + length ws) xs) (take-length ws) ∙ ap (λ n. ws ++ drop n xs) (zero-add (length ws))
+
+pub flatten-append : {A : Type 0} (l m : List (List A)) → flatten (l ++ m) ≡ flatten l ++ flatten m
+unfolding flatten
+flatten-append [] m = refl
+flatten-append (x ∷ l) m = ap (λ r. x ++ r) (flatten-append l m) ∙ sym (append-assoc x (flatten l) (flatten m))
+
+-- s pasted after g, which is written over the start of out
+pub over-more : {A : Type 0} (g s out₀ out : List A) (a : ℕ) → length g ≡ a → out ≡ over g out₀
+    → paste out a s (length s) ≡ over (g ++ s) out₀
+over-more g s out₀ out a e f =
+    let before : take a out ≡ g = ap (take a) f ∙ take-at g (drop (length g) out₀) a e in
+    let after : drop (a + length s) out ≡ drop (length (g ++ s)) out₀
+    = sym (drop-drop (length s) a out) ∙ ap (λ l. drop (length s) (drop a l)) f
+    ∙ ap (drop (length s)) (drop-at g (drop (length g) out₀) a e) ∙ drop-drop (length s) (length g) out₀
+    ∙ ap (λ k. drop k out₀) (sym (length-append g s)) in
+    ap (λ l. l ++ take (length s) s ++ drop (a + length s) out) before
+    ∙ ap (λ l. g ++ l ++ drop (a + length s) out) (take-length s) ∙ ap (λ l. g ++ s ++ l) after
+
+-- the ends that are written over a longer slice
+pub ends-taken : {A : Type 0} (ps : List (List A)) (ends : List ℕ) → take (length ps) (over (endsFrom 0 ps) ends) ≡ endsFrom 0 ps
+ends-taken ps ends = take-at (endsFrom 0 ps) (drop (length (endsFrom 0 ps)) ends) (length ps) (length-ends 0 ps)

@@ -2,8 +2,8 @@
 use mathlib.Core.Path.{sym, ap, _∙_}
 use Rattle.cell.specs.Types.{shapeIn}
 use borrow.Author.Needs.{needs}
-use Rattle.cell.proofs.SpaceType.shape_of.Statement.{statement}
-use Rattle.cell.proofs.SpaceType.shape_of.Tie as tie
+use Rattle.cell.proofs.types.SpaceType.shape_of.Statement.{statement}
+use Rattle.cell.proofs.types.SpaceType.shape_of.Tie as tie
 
 of-number-requires : tie.Need-of-number-requires
 of-number-requires c κs = search needs

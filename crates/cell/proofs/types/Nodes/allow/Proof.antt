@@ -1,7 +1,7 @@
 -- `Nodes::allow` meets its contract. Assumes nothing.
 use borrow.Author.Needs.{needs}
-use Rattle.cell.proofs.Nodes.allow.Statement.{statement}
-use Rattle.cell.proofs.Nodes.allow.Tie as tie
+use Rattle.cell.proofs.types.Nodes.allow.Statement.{statement}
+use Rattle.cell.proofs.types.Nodes.allow.Tie as tie
 
 enum-known-self : tie.Need-enum-known-self
 enum-known-self c = search needs

@@ -1,8 +1,8 @@
 -- `PlaneType::of_number` meets its contract. Assumes nothing.
 use borrow.Author.Tests.{ne-eqb}
 use Rattle.cell.specs.Types.{planeType}
-use Rattle.cell.proofs.PlaneType.of_number.Statement.{statement}
-use Rattle.cell.proofs.PlaneType.of_number.Tie as tie
+use Rattle.cell.proofs.types.PlaneType.of_number.Statement.{statement}
+use Rattle.cell.proofs.types.PlaneType.of_number.Tie as tie
 
 returns : tie.Need-returns
 unfolding planeType
