@@ -14,7 +14,7 @@ use Rattle.rows.specs.Outcome.{Outcome, refused, found, andThen, unless}
 use Rattle.rows.proofs.Lists.{flatten-map, ends-map, length-ends}
 use Rattle.cell.specs.Types.{allow, spaceNodes, shapeOf, shapeIn, shapeNumbered, planeCorners, cornersTyped, cornersNumbered}
 use Rattle.cell.specs.Faces.{Face, facesOf, polygonOf}
-use Rattle.cell.specs.Read.{corner, areRows, polygons, Polygon, keptOf, readingOf, Tested, Cell, spaceCell, planeCell}
+use Rattle.cell.specs.Read.{corner, areRows, polygons, Polygon, keptOf, readingTold, Tested, Cell, spaceCell, planeCell}
 use Rattle.cell.specs.Read.{polygonsOf, cornersOf, faceCount, Accepted, Copied, CopiedPolygon}
 use Rattle.cell.specs.Code.{below, gathered, readFaces, cornersTested, facesTested, Listed, Testable}
 use Rattle.cell.specs.Code.{Copies, CopiesFaces, CopiesPolygon, PutsFaces}
@@ -46,7 +46,7 @@ told-faces w c xs fs = by-test (areRows c (length xs / w) (flatten fs))
     by-test false = refl
 
 pub faces-told : (w : ℕ) (c : List ℕ) (xs : List Float) (fs : List Face) {o : Outcome (List Polygon)} {r : Reading}
-    → o ≡ readFaces w c xs fs → readingOf r ≡ facesTested c (length xs / w) fs → Tested o r
+    → o ≡ readFaces w c xs fs → readingTold r ≡ facesTested c (length xs / w) fs → Tested o r
 faces-told w c xs fs e h = rw e (record { tells = h ∙ told-faces w c xs fs })
 
 -- the positions that were listed are the faces'

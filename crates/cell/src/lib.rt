@@ -10,7 +10,7 @@ ghost use lib.Seq.{paste};
 ghost use Rattle.rows.specs.Rows.{over};
 ghost use Rattle.cell.specs.Faces.{stretches, kept, facesOf, polygonOf};
 ghost use Rattle.cell.specs.Read.{areRows, polygons, cell, spaceCell, planeCell, polygonsOf, cornersOf, faceCount};
-ghost use Rattle.cell.specs.Read.{readingOf, Accepted, Copied, CopiedPolygon, Tested};
+ghost use Rattle.cell.specs.Read.{readingTold, Accepted, Copied, CopiedPolygon, Tested};
 ghost use Rattle.cell.specs.Code.{below, gathered, cornersTested, facesTested, Listed, Testable};
 ghost use Rattle.cell.specs.Code.{Copies, CopiesFaces, CopiesPolygon, PutsFaces, PutFaces};
 use types::InPlane;
@@ -88,7 +88,7 @@ pub fn copy_plane_cell(t: u8, conn: &[u64], xs: &[f64], out: &mut [f64])
 // Refusal 4, or how many corners and faces a cell of this shape has.
 fn test_faces(s: Shape, conn: &[u64], rows: usize) -> Reading
     requires { ⌜ Testable (now conn) (facesOf s (now conn)) ⌝ }
-    ensures { λ r. ⌜ readingOf r ≡ facesTested (now (conn .entry)) rows (facesOf s (now (conn .entry))) ⌝ }
+    ensures { λ r. ⌜ readingTold r ≡ facesTested (now (conn .entry)) rows (facesOf s (now (conn .entry))) ⌝ }
 {
     match s {
         Shape::Tet => test_corners(conn, &TET, 4, rows),
@@ -101,7 +101,7 @@ fn test_faces(s: Shape, conn: &[u64], rows: usize) -> Reading
 // The same of a polyhedron.
 fn test_phed(conn: &[u64], rows: usize) -> Reading
     requires { ⌜ Testable (now conn) (kept (stretches 0 (now conn))) ⌝ }
-    ensures { λ r. ⌜ readingOf r ≡ facesTested (now (conn .entry)) rows (kept (stretches 0 (now (conn .entry)))) ⌝ }
+    ensures { λ r. ⌜ readingTold r ≡ facesTested (now (conn .entry)) rows (kept (stretches 0 (now (conn .entry)))) ⌝ }
 {
     let mut corners = [0u8; 256];
     let mut ends = [0usize; 85];
@@ -113,7 +113,7 @@ fn test_phed(conn: &[u64], rows: usize) -> Reading
 // The same of a polygon, whose corners are its first n nodes.
 fn test_polygon(n: usize, conn: &[u64], rows: usize) -> Reading
     requires { ⌜ (n ≤ length (now conn)) × (n ≤ 256) ⌝ }
-    ensures { λ r. ⌜ readingOf r ≡ facesTested (now (conn .entry)) rows (polygonOf n) ⌝ }
+    ensures { λ r. ⌜ readingTold r ≡ facesTested (now (conn .entry)) rows (polygonOf n) ⌝ }
 {
     if n <= 4 {
         return test_corners(conn, &RING[..n], 1, rows);
@@ -126,7 +126,7 @@ fn test_polygon(n: usize, conn: &[u64], rows: usize) -> Reading
 // Refusal 4, or how many corners these are, in so many faces.
 fn test_corners(conn: &[u64], corners: &[u8], faces: usize, rows: usize) -> Reading
     requires { ⌜ T (below (length (now conn)) (now corners)) ⌝ }
-    ensures { λ r. ⌜ readingOf r ≡ cornersTested (now (conn .entry)) rows (now (corners .entry)) faces ⌝ }
+    ensures { λ r. ⌜ readingTold r ≡ cornersTested (now (conn .entry)) rows (now (corners .entry)) faces ⌝ }
 {
     if are_rows(conn, corners, rows) {
         return Reading::Cell {

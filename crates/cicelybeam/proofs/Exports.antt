@@ -7,9 +7,9 @@ use lib.Ieee.{Float}
 use lib.ListN.{length}
 use Rattle.vector.specs.Rows.{Seg}
 use Rattle.stitch.specs.Stitch.{Answer}
-use Rattle.entries.specs.Outcome.{Outcome, refused, found, Told, told, Gave, ToldLine, toldLine, GaveLine}
-use Rattle.entries.specs.Claims.{Sound}
-use Rattle.section.specs.Claims.{Small}
+use Rattle.cuts.specs.Outcome.{Outcome, refused, found, Told, told, Gave, ToldLine, toldLine, GaveLine}
+use Rattle.cuts.specs.Claims.{Sound}
+use Rattle.plane_cut.specs.Claims.{Small}
 
 module _ {o : Outcome Answer} {r : Told} {numbers numbers′ : List Float} {nodes nodes′ ends ends′ : List ℕ}
     (g : Gave o r numbers numbers′ nodes nodes′ ends ends′) where

@@ -1,5 +1,5 @@
 -- What the structs of the exports tell. Definitions only.
-use Rattle.entries.specs.Outcome.{Told, ToldLine, ToldTolerance}
+use Rattle.cuts.specs.Outcome.{Told, ToldLine, ToldTolerance}
 use Rattle.cicelybeam.specs.declared.Section.{Section}
 use Rattle.cicelybeam.specs.declared.Line.{Line}
 use Rattle.cicelybeam.specs.declared.Tolerance.{Tolerance}

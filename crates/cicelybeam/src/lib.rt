@@ -4,11 +4,11 @@ ghost use Prim.Native.Nat.{_<_};
 ghost use lib.Ieee.{binary64};
 ghost use lib.ListN.{length};
 ghost use Rattle.root.specs.Root.{sqrtOf};
-ghost use Rattle.entries.specs.Outcome.{Gave, GaveLine, toldTolerance};
-ghost use Rattle.entries.specs.Entries.{byDirection, byNormal, lineCut, planeCut, stitchAlone, toleranceOf};
-ghost use Rattle.section.specs.Claims.{Small};
-ghost use Rattle.section.specs.Code.{counted, meaning, toleranceMeaning};
-ghost use Rattle.entries.specs.Code.{meaning as lineMeaning};
+ghost use Rattle.cuts.specs.Outcome.{Gave, GaveLine, toldTolerance};
+ghost use Rattle.cuts.specs.Entries.{byDirection, byNormal, lineCut, planeCut, stitchAlone, toleranceOf};
+ghost use Rattle.plane_cut.specs.Claims.{Small};
+ghost use Rattle.plane_cut.specs.Code.{counted, meaning, toleranceMeaning};
+ghost use Rattle.cuts.specs.Code.{meaning as lineMeaning};
 ghost use Rattle.cicelybeam.specs.Exports.{toldIn, toldLineIn, toldToleranceIn};
 
 // struct cicelybeam_section: refusal 0, how many points, nodes and loops were written, and the four counts of edges; or the
@@ -58,7 +58,7 @@ pub extern "C" fn cicelybeam_plane(
         (toldIn r) (now (numbers .entry)) (now (numbers .exit)) (now (nodes .entry)) (now (nodes .exit))
         (now (ends .entry)) (now (ends .exit)) ⌝ }
 {
-    told_section(section::section_cell_by_plane(
+    told_section(plane_cut::section_cell_by_plane(
         kind,
         conn,
         coords,
@@ -87,7 +87,7 @@ pub extern "C" fn cicelybeam_line_in_space(
         (length (now (numbers .entry))))
         (toldLineIn r) (now (numbers .entry)) (now (numbers .exit)) ⌝ }
 {
-    told_line(line::slice_line_3d(kind, conn, coords, origin, direction, tol, numbers))
+    told_line(line_cut::slice_line_3d(kind, conn, coords, origin, direction, tol, numbers))
 }
 
 // A plane cell cut by a line that its normal gives.
@@ -143,7 +143,7 @@ pub extern "C" fn cicelybeam_stitch(
         (toldIn r) (now (numbers .entry)) (now (numbers .exit)) (now (nodes .entry)) (now (nodes .exit))
         (now (ends .entry)) (now (ends .exit)) ⌝ }
 {
-    told_section(section::stitch_alone(segments, tol, numbers, nodes, ends))
+    told_section(plane_cut::stitch_alone(segments, tol, numbers, nodes, ends))
 }
 
 // The tolerance of a mesh in space, by its coordinates.
@@ -151,7 +151,7 @@ pub extern "C" fn cicelybeam_stitch(
 pub extern "C" fn cicelybeam_tolerance_in_space(coords: &[f64]) -> Tolerance
     ensures { λ r. ⌜ toldToleranceIn r ≡ toldTolerance (toleranceOf 3 (now (coords .entry))) ⌝ }
 {
-    told_tolerance(section::tolerance_in_space(coords))
+    told_tolerance(plane_cut::tolerance_in_space(coords))
 }
 
 // The tolerance of a mesh in the plane.
@@ -159,7 +159,7 @@ pub extern "C" fn cicelybeam_tolerance_in_space(coords: &[f64]) -> Tolerance
 pub extern "C" fn cicelybeam_tolerance_in_plane(coords: &[f64]) -> Tolerance
     ensures { λ r. ⌜ toldToleranceIn r ≡ toldTolerance (toleranceOf 2 (now (coords .entry))) ⌝ }
 {
-    told_tolerance(section::tolerance_in_plane(coords))
+    told_tolerance(plane_cut::tolerance_in_plane(coords))
 }
 
 // The square root as IEEE 754 has it.
@@ -171,12 +171,12 @@ pub extern "C" fn cicelybeam_sqrt(x: f64) -> f64
 }
 
 // An answer as a C struct.
-fn told_section(answer: section::Section) -> Section
+fn told_section(answer: plane_cut::Section) -> Section
     requires { ⌜ Small (meaning answer) ⌝ }
     ensures { λ r. ⌜ toldIn r ≡ meaning answer ⌝ }
 {
     match answer {
-        section::Section::Refused(k) => Section {
+        plane_cut::Section::Refused(k) => Section {
             refusal: k as u32,
             points: 0,
             nodes: 0,
@@ -186,7 +186,7 @@ fn told_section(answer: section::Section) -> Section
             flat: 0,
             opened: 0,
         },
-        section::Section::Cut(s) => counted(s),
+        plane_cut::Section::Cut(s) => counted(s),
     }
 }
 
@@ -208,16 +208,16 @@ fn counted(s: stitch::Stitched) -> Section
 }
 
 // A line section as a C struct.
-fn told_line(answer: entries::Line) -> Line
+fn told_line(answer: cuts::Line) -> Line
     requires { ⌜ lineMeaning answer .segments < 4294967296 ⌝ }
     ensures { λ r. ⌜ toldLineIn r ≡ lineMeaning answer ⌝ }
 {
     match answer {
-        entries::Line::Refused(k) => Line {
+        cuts::Line::Refused(k) => Line {
             refusal: k as u32,
             segments: 0,
         },
-        entries::Line::Cut(n) => Line {
+        cuts::Line::Cut(n) => Line {
             refusal: 0,
             segments: narrow(n),
         },
@@ -225,15 +225,15 @@ fn told_line(answer: entries::Line) -> Line
 }
 
 // A tolerance as a C struct.
-fn told_tolerance(answer: section::Tolerance) -> Tolerance
+fn told_tolerance(answer: plane_cut::Tolerance) -> Tolerance
     ensures { λ r. ⌜ toldToleranceIn r ≡ toleranceMeaning answer ⌝ }
 {
     match answer {
-        section::Tolerance::Refused(k) => Tolerance {
+        plane_cut::Tolerance::Refused(k) => Tolerance {
             refusal: k as u32,
             value: 0.0,
         },
-        section::Tolerance::Of(x) => Tolerance {
+        plane_cut::Tolerance::Of(x) => Tolerance {
             refusal: 0,
             value: x,
         },

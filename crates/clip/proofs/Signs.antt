@@ -9,7 +9,7 @@ use borrow.Author.Tests.{eqb-true, le-ltb, lt-ltb, ltb-false, ltb-true, ne-eqb}
 use lib.Dec.{T, eqb, ltb}
 use lib.Ieee.{Float, nan, inf, fin, binary64, below, level, up, down, mul, neg, lt, le, eq}
 use Rattle.vector.specs.Number.{f0, f1, minusOne, abs}
-use Rattle.vector.proofs.Tolerance.{plusSigned, round-plus}
+use Rattle.vector.proofs.Extents.{plusSigned, round-plus}
 
 -- ---- numbers with a sign, by their magnitudes in a common unit
 

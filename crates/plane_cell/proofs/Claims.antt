@@ -14,10 +14,10 @@ use Rattle.cell.specs.Read.{Polygon, planeCell, planeKind, read}
 use Rattle.cell.proofs.Alike.{alike}
 use Rattle.clip.specs.Clip.{Cut}
 use Rattle.clip.proofs.Bound.{section-bound}
-use Rattle.entries.specs.Outcome.{found, andThen, unless}
-use Rattle.entries.specs.Entries.{normalIn, placedBy, planeCellCut, polygonSegments, polygonsOf}
-use Rattle.entries.specs.Claims.{Sound}
-use Rattle.entries.proofs.Claims.{sound-reading, sound-then, sound-unless}
+use Rattle.cuts.specs.Outcome.{found, andThen, unless}
+use Rattle.cuts.specs.Entries.{normalIn, placedBy, planeCellCut, polygonSegments, polygonsOf}
+use Rattle.cuts.specs.Claims.{Sound}
+use Rattle.cuts.proofs.Claims.{sound-reading, sound-then, sound-unless}
 use Rattle.plane_cell.specs.Claims.{AlikeInPlane, PlaneCellSound}
 use Rattle.plane_cell.proofs.Seam.{plane-seam}
 use Rattle.plane_cell.proofs.Reading.{most-256}

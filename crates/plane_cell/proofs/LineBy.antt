@@ -11,9 +11,9 @@ use Rattle.cell.specs.Read.{planeCell}
 use Rattle.clip.specs.Clip.{Cut}
 use Rattle.clip.specs.View.{cut2}
 use Rattle.clip.specs.declared.plane.Cut as pc
-use Rattle.entries.specs.Outcome.{Outcome, refused, found, andThen, unless}
-use Rattle.entries.specs.Entries.{polygonsOf, placedBy, normalIn, polygonSegments, planeCellCut}
-use Rattle.entries.proofs.Refusals.{origin-long, vector-long, both-fit, whole-row}
+use Rattle.cuts.specs.Outcome.{Outcome, refused, found, andThen, unless}
+use Rattle.cuts.specs.Entries.{polygonsOf, placedBy, normalIn, polygonSegments, planeCellCut}
+use Rattle.cuts.proofs.Refusals.{origin-long, vector-long, both-fit, whole-row}
 use Rattle.plane_cell.specs.Code.{cutting, lineBy, cellCut}
 use Rattle.plane_cell.specs.declared.Cutting.{Cutting}
 use Rattle.plane_cell.specs.declared.Cutting.the-variants.{Refused, By}

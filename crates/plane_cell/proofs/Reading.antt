@@ -13,9 +13,9 @@ use Rattle.cell.specs.Read.{Polygon, Read, refused, read, Gave, Tested, polygon
 use Rattle.cell.specs.declared.Reading.{Reading}
 use Rattle.cell.specs.declared.Reading.the-variants.{Refused, Cell}
 use Rattle.clip.specs.Clip.{Cut, planeSectionSegments}
-use Rattle.entries.specs.Outcome as O
-use Rattle.entries.specs.Entries.{polygonsOf, polygonSegments}
-use Rattle.entries.proofs.Cutting as C
+use Rattle.cuts.specs.Outcome as O
+use Rattle.cuts.specs.Entries.{polygonsOf, polygonSegments}
+use Rattle.cuts.proofs.Cutting as C
 use Rattle.plane_cell.specs.Code.{cellCut, segmentsIn}
 use Rattle.plane_cell.proofs.Seam.{plane-seam}
 

@@ -13,7 +13,7 @@ use Rattle.cell.specs.declared.InPlane as P
 use Rattle.cell.specs.declared.InPlane.the-variants as p
 use Rattle.cell.proofs.Bounds.{refused-unread, plane-room, accepted}
 use Rattle.stitch.specs.Claim.{All}
-use Rattle.entries.proofs.Seam.{Wide, read-rows, rows-back}
+use Rattle.cuts.proofs.Seam.{Wide, read-rows, rows-back}
 
 plane-rows : (t : ℕ) (c : List ℕ) (xs : List Float) (ps : List Polygon) → planeCell t c xs ≡ read ps → All (Wide 2) ps
 plane-rows t c xs ps e = read-rows 2 c xs (planeKind (planeType t)) ps e

@@ -9,8 +9,8 @@ use Rattle.vector.specs.Vector.{Direction}
 use Rattle.cell.specs.Types.{planeType}
 use Rattle.cell.specs.Read.{Kind, Polygon, planeCell, planeKind, read}
 use Rattle.cell.specs.Claims.{SameCorners, facesAs}
-use Rattle.entries.specs.Entries.{byNormal, byDirection, planeCellCut}
-use Rattle.entries.specs.Claims.{Sound}
+use Rattle.cuts.specs.Entries.{byNormal, byDirection, planeCellCut}
+use Rattle.cuts.specs.Claims.{Sound}
 
 -- the type of number t has the same corner coordinates in two cells in the plane
 abbrev pub SameInPlane : ℕ → List ℕ → List ℕ → List Float → List Float → Type 0

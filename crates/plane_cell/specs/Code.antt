@@ -10,8 +10,8 @@ use Rattle.vector.specs.Rows.{Seg}
 use Rattle.cell.specs.Read.{planeCell}
 use Rattle.clip.specs.Clip.{Cut, planeSectionSegments}
 use Rattle.clip.specs.View.{cut2}
-use Rattle.entries.specs.Outcome.{Outcome, refused, found, andThen, unless}
-use Rattle.entries.specs.Entries.{normalIn, placedBy, polygonSegments, polygonsOf}
+use Rattle.cuts.specs.Outcome.{Outcome, refused, found, andThen, unless}
+use Rattle.cuts.specs.Entries.{normalIn, placedBy, polygonSegments, polygonsOf}
 use Rattle.plane_cell.specs.declared.Cutting as C
 use Rattle.plane_cell.specs.declared.Cutting.the-variants as c
 

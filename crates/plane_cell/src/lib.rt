@@ -8,14 +8,14 @@ ghost use Rattle.vector.specs.Rows.{rows};
 ghost use Rattle.cell.specs.Read.{planeMost};
 ghost use Rattle.clip.specs.Cell.{atMost};
 ghost use Rattle.clip.specs.View.{cut2};
-ghost use Rattle.entries.specs.Outcome.{GaveLine, andThen, found};
-ghost use Rattle.entries.specs.Entries.{byDirection, byNormal, normalIn};
-ghost use Rattle.entries.specs.Code.{meaning};
+ghost use Rattle.cuts.specs.Outcome.{GaveLine, andThen, found};
+ghost use Rattle.cuts.specs.Entries.{byDirection, byNormal, normalIn};
+ghost use Rattle.cuts.specs.Code.{meaning};
 ghost use Rattle.plane_cell.specs.Code.{cellCut, cutting, lineBy, segmentsIn};
 use cell::PlaneType;
 use cell::Reading;
 use clip::plane::Cut;
-use entries::Line;
+use cuts::Line;
 use vector::Unit2;
 use vector::Vec2;
 

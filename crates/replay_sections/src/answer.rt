@@ -2,9 +2,9 @@
 ghost use Prim.Native.Nat.{_+_, _≤_, min};
 ghost use lib.ListN.{length};
 ghost use Rattle.replay_sections.specs.Code.{InOrder, Whole};
-use entries::Line;
-use section::Section;
-use section::Tolerance;
+use cuts::Line;
+use plane_cut::Section;
+use plane_cut::Tolerance;
 use stitch::Stitched;
 
 // Where the lists of a case begin, with their lengths; the first at word 3. The lengths of the buffers follow the last.
@@ -94,7 +94,7 @@ fn enter(
     ends: &mut [u32],
 ) -> [u64; 9] {
     match entry {
-        1 => told(section::section_cell_by_plane(
+        1 => told(plane_cut::section_cell_by_plane(
             t,
             conn,
             xs,
@@ -105,12 +105,12 @@ fn enter(
             nodes,
             ends,
         )),
-        2 => told_line(line::slice_line_3d(t, conn, xs, origin, vector, tol, numbers)),
+        2 => told_line(line_cut::slice_line_3d(t, conn, xs, origin, vector, tol, numbers)),
         3 => told_line(plane_cell::slice_2d(t, conn, xs, origin, vector, tol, numbers)),
         4 => told_line(plane_cell::slice_line(t, conn, xs, origin, vector, tol, numbers)),
-        5 => told(section::stitch_alone(segments, tol, numbers, nodes, ends)),
-        6 => told_tolerance(section::tolerance_in_space(xs)),
-        _ => told_tolerance(section::tolerance_in_plane(xs)),
+        5 => told(plane_cut::stitch_alone(segments, tol, numbers, nodes, ends)),
+        6 => told_tolerance(plane_cut::tolerance_in_space(xs)),
+        _ => told_tolerance(plane_cut::tolerance_in_plane(xs)),
     }
 }
 

@@ -1,5 +1,5 @@
 pub mod Rows
 pub mod Unit
 pub mod Passes
-pub mod Tolerance
+pub mod Extents
 pub mod Worked

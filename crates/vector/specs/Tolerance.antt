@@ -1,12 +1,17 @@
 -- The tolerance of coordinates, w a row: its definition, and what document 01 says of it. Definitions only.
--- That it holds of every tolerance is `tolerance-sound`, in proofs/Tolerance.antt.
+-- That it holds of every tolerance is `tolerance-sound`, in proofs/Extents.antt.
 use mathlib.Core.Path.{_≡_}
 use mathlib.Core.List.{List, [], _∷_, map}
 use mathlib.Core.Bool.{true, false, cond}
-use Prim.Native.Nat.{ℕ, zero, suc, _-_}
+use Prim.Native.Nat.{ℕ, zero, suc, _-_, _%_}
+use lib.Dec.{eqb}
 use lib.IntN.{negsuc}
+use lib.ListN.{length}
 use lib.Ieee.{Float, inf, fin, binary64, add, sub, mul, lt, le, isNan}
+use Rattle.rows.specs.Outcome.{Outcome, refused, found, unless}
 use Rattle.vector.specs.Number.{f0, abs}
+use Rattle.vector.specs.declared.Tolerance as T
+use Rattle.vector.specs.declared.Tolerance.the-variants as t
 
 -- the lesser of two: the second only where its test holds, so that a NaN there is passed over
 abbrev pub lesser : Float → Float → Float
@@ -65,6 +70,25 @@ tolerance w [] = small
 tolerance w (x ∷ xs) = let l = x ∷ xs in add binary64 (mul binary64 small (extent w l w)) (mul binary64 fine (magnitude l))
 
 -- never NaN and never negative
-pub record Sound (t : Float) : Type 0 where
+pub record Nonnegative (t : Float) : Type 0 where
   pub a-number : isNan t ≡ false
   pub not-negative : le f0 t ≡ true
+
+-- ---- the entry, which tests 3 alone
+
+abbrev pub toleranceOf : ℕ → List Float → Outcome Float
+toleranceOf w xs = unless 3 (eqb (length xs % w) 0) (found (tolerance w xs))
+
+-- what the answer tells: the number of a refusal, or 0; the tolerance, 0 with a refusal
+pub record ToldTolerance : Type 0 where
+  pub refusal : ℕ
+  pub value : Float
+
+abbrev pub toldTolerance : Outcome Float → ToldTolerance
+toldTolerance (refused k) = record { refusal = k; value = f0 }
+toldTolerance (found x) = record { refusal = 0; value = x }
+
+-- document 01's number and value for each case of the code's answer
+abbrev pub toleranceTold : T.Tolerance → ToldTolerance
+toleranceTold (t.Refused k) = record { refusal = k; value = f0 }
+toleranceTold (t.Of x) = record { refusal = 0; value = x }

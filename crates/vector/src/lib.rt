@@ -10,6 +10,7 @@ ghost use Rattle.vector.specs.Vector.{lineOf, normalAlong, planeBasis, p
 ghost use Rattle.vector.specs.Rows.{put, row};
 ghost use Rattle.vector.specs.View.{basisOf, frameOf, placed, unit2, unit3, vec2, vec3};
 ghost use Rattle.vector.specs.Tolerance.{column, extent, greater, lesser, magnitude, spread, tolerance};
+ghost use Rattle.vector.specs.Tolerance.{toldTolerance, toleranceOf, toleranceTold};
 
 // A cutting plane: its origin, its unit normal and the two in-plane vectors.
 pub struct Plane {
@@ -372,6 +373,32 @@ pub fn put2(xs: &mut [f64], i: usize, p: Vec2)
 {
     xs[2 * i] = p.x;
     xs[2 * i + 1] = p.y;
+}
+
+// The number of a refusal, or the tolerance.
+pub enum Tolerance {
+    Refused(u8),
+    Of(f64),
+}
+
+// The tolerance of a mesh in space, by its coordinates.
+pub fn tolerance_in_space(xs: &[f64]) -> Tolerance
+    ensures { λ r. ⌜ toleranceTold r ≡ toldTolerance (toleranceOf 3 (now (xs .entry))) ⌝ }
+{
+    if xs.len() % 3 != 0 {
+        return Tolerance::Refused(3);
+    }
+    Tolerance::Of(slice_tolerance(xs, 3))
+}
+
+// The tolerance of a mesh in the plane.
+pub fn tolerance_in_plane(xs: &[f64]) -> Tolerance
+    ensures { λ r. ⌜ toleranceTold r ≡ toldTolerance (toleranceOf 2 (now (xs .entry))) ⌝ }
+{
+    if xs.len() % 2 != 0 {
+        return Tolerance::Refused(3);
+    }
+    Tolerance::Of(slice_tolerance(xs, 2))
 }
 
 // The difference between 1 and the next f64.

@@ -88,7 +88,7 @@ fn by_plane_in(
     nodes: &mut [u32],
     ends: &mut [u32],
 ) {
-    let s = section::section_cell_by_plane(t, conn, xs, origin, normal, 0.0, numbers, nodes, ends);
+    let s = plane_cut::section_cell_by_plane(t, conn, xs, origin, normal, 0.0, numbers, nodes, ends);
     show::section(s, numbers, nodes, ends);
 }
 
@@ -106,7 +106,7 @@ fn by_line_in(
     direction: &[f64],
     numbers: &mut [f64],
 ) {
-    let l = line::slice_line_3d(t, conn, xs, origin, direction, 0.0, numbers);
+    let l = line_cut::slice_line_3d(t, conn, xs, origin, direction, 0.0, numbers);
     show::line(l, numbers, 6);
 }
 
@@ -161,7 +161,7 @@ fn stitched_in(
     nodes: &mut [u32],
     ends: &mut [u32],
 ) {
-    let s = section::stitch_alone(segments, tol, numbers, nodes, ends);
+    let s = plane_cut::stitch_alone(segments, tol, numbers, nodes, ends);
     show::section(s, numbers, nodes, ends);
 }
 
@@ -187,7 +187,7 @@ fn zigzag_in(
 {
     up_and_down(n, segments);
     let k = 4 * n;
-    let s = section::stitch_alone(&segments[..k], 0.0, numbers, nodes, ends);
+    let s = plane_cut::stitch_alone(&segments[..k], 0.0, numbers, nodes, ends);
     show::section(s, numbers, nodes, ends);
 }
 

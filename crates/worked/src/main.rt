@@ -137,7 +137,7 @@ fn stitching() {
 // Cases 11 and 12: a tolerance and two roots.
 fn numbers() {
     text(b"case 11, row (3, 4, 0):");
-    show::tolerance(section::tolerance_in_space(&[3.0, 4.0, 0.0]));
+    show::tolerance(plane_cut::tolerance_in_space(&[3.0, 4.0, 0.0]));
     text(b"case 12, root of 4: ");
     number::print(root::sqrt(4.0));
     text(b"\ncase 12, root of 2^-1074: ");

@@ -2,10 +2,10 @@
 ghost use Prim.Native.Nat.{_^_, _<_, _≤_};
 use crate::number;
 use cell::Reading;
-use entries::Line;
+use cuts::Line;
 use libc::STDOUT_FILENO;
-use section::Section;
-use section::Tolerance;
+use plane_cut::Section;
+use plane_cut::Tolerance;
 use stitch::Stitched;
 
 // What stands in the buffers before an entry is called.

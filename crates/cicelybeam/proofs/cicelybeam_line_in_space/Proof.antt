@@ -1,7 +1,7 @@
 -- `cicelybeam_line_in_space` meets its contract. Assumes nothing.
 use native.Mathlib.Omega.{arith}
 use lib.ListN.{length}
-use Rattle.line.proofs.Claims.{line-sound}
+use Rattle.line_cut.proofs.Claims.{line-sound}
 use Rattle.cicelybeam.proofs.Exports.{line-small, line-retold}
 use borrow.Author.Needs.{needs}
 use Rattle.cicelybeam.proofs.cicelybeam_line_in_space.Statement.{statement}

@@ -1,6 +1,6 @@
 -- `cicelybeam_plane` meets its contract. Assumes nothing.
 use lib.ListN.{length}
-use Rattle.section.proofs.Claims.{sections-small}
+use Rattle.plane_cut.proofs.Claims.{sections-small}
 use Rattle.cicelybeam.proofs.Exports.{retold, told-small}
 use borrow.Author.Needs.{needs}
 use Rattle.cicelybeam.proofs.cicelybeam_plane.Statement.{statement}

@@ -1,7 +1,7 @@
 -- `told_line` meets its contract. Assumes nothing.
 use mathlib.Core.Path.{ap, subst, sym}
 use Prim.Native.Nat.{_<_}
-use Rattle.entries.specs.Code.{meaning}
+use Rattle.cuts.specs.Code.{meaning}
 use borrow.Author.Needs.{needs}
 use Rattle.cicelybeam.proofs.told_line.Statement.{statement}
 use Rattle.cicelybeam.proofs.told_line.Tie as tie

@@ -1,7 +1,7 @@
 -- `told_section` meets its contract. Assumes nothing.
 use mathlib.Core.Path.{_∙_, ap, subst, sym}
-use Rattle.section.specs.Claims.{Small}
-use Rattle.section.specs.Code.{meaning}
+use Rattle.plane_cut.specs.Claims.{Small}
+use Rattle.plane_cut.specs.Code.{meaning}
 use borrow.Author.Needs.{needs}
 use Rattle.cicelybeam.proofs.told_section.Statement.{statement}
 use Rattle.cicelybeam.proofs.told_section.Tie as tie

@@ -1,6 +1,6 @@
 -- `told_tolerance` meets its contract. Assumes nothing.
 use mathlib.Core.Path.{ap, sym}
-use Rattle.section.specs.Code.{toleranceMeaning}
+use Rattle.plane_cut.specs.Code.{toleranceMeaning}
 use borrow.Author.Needs.{needs}
 use Rattle.cicelybeam.proofs.told_tolerance.Statement.{statement}
 use Rattle.cicelybeam.proofs.told_tolerance.Tie as tie

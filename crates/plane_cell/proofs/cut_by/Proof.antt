@@ -3,8 +3,8 @@ use Rattle.clip.specs.View.{cut2}
 use native.Mathlib.Omega.{arith}
 use borrow.Author.Tests.{le-leb, lt-leb}
 use Rattle.clip.proofs.Section.{section-count}
-use Rattle.entries.proofs.Refusals.{test-failed, test-passed}
-use Rattle.entries.proofs.Answers.{gave-refusal, gave-segments}
+use Rattle.cuts.proofs.Refusals.{test-failed, test-passed}
+use Rattle.cuts.proofs.Answers.{gave-refusal, gave-segments}
 use borrow.Author.Needs.{needs}
 use Rattle.plane_cell.proofs.cut_by.Statement.{statement}
 use Rattle.plane_cell.proofs.cut_by.Tie as tie

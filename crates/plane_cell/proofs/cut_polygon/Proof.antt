@@ -1,5 +1,5 @@
 -- `cut_polygon` meets its contract. Assumes nothing.
-use Rattle.entries.proofs.Answers.{gave-refusal, gave-same}
+use Rattle.cuts.proofs.Answers.{gave-refusal, gave-same}
 use Rattle.plane_cell.proofs.LineBy.{line-placed, unplaced}
 use borrow.Author.Needs.{needs}
 use Rattle.plane_cell.proofs.cut_polygon.Statement.{statement}

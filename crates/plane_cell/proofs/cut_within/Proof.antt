@@ -2,7 +2,7 @@
 use Rattle.plane_cell.specs.Code.{cutting}
 use lib.ListN.{length}
 use native.Mathlib.Omega.{arith}
-use Rattle.entries.proofs.Answers.{gave-refusal, gave-same}
+use Rattle.cuts.proofs.Answers.{gave-refusal, gave-same}
 use Rattle.plane_cell.proofs.Reading.{cell-cut, cell-refused, polygon-in, was-refused}
 use borrow.Author.Needs.{needs}
 use Rattle.plane_cell.proofs.cut_within.Statement.{statement}

@@ -1,7 +1,7 @@
 -- `slice_line` meets its contract. Assumes nothing.
 use lib.ListN.{length}
 use Rattle.vector.specs.Vector.{normalAlong}
-use Rattle.entries.proofs.Answers.{gave-same}
+use Rattle.cuts.proofs.Answers.{gave-same}
 use Rattle.plane_cell.proofs.LineBy.{placed-first}
 use borrow.Author.Needs.{needs}
 use Rattle.plane_cell.proofs.slice_line.Statement.{statement}

@@ -1,6 +1,6 @@
 -- `worked::cases::faces_in` is safe: what is copied was accepted. Assumes nothing.
 use native.Mathlib.Omega.{arith}
-use Rattle.entries.proofs.Cutting.{was-accepted}
+use Rattle.cuts.proofs.Cutting.{was-accepted}
 use borrow.Author.Needs.{needs}
 use Rattle.worked.proofs.cases.faces_in.Statement.{statement}
 use Rattle.worked.proofs.cases.faces_in.Tie as tie

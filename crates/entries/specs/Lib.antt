@@ -1,4 +1,0 @@
-pub mod Outcome
-pub mod Entries
-pub mod Code
-pub mod Claims

@@ -1,0 +1,278 @@
+// A cell in space cut by a line. The answer is segments only.
+ghost use mathlib.Core.Path.{_≡_};
+ghost use mathlib.Core.List.{_++_, map};
+ghost use Prim.Native.Nat.{_*_, _+_, _≤_};
+ghost use lib.ListN.{length};
+ghost use Rattle.vector.specs.Vector.{lineOf};
+ghost use Rattle.vector.specs.View.{frameOf, vec2, vec3};
+ghost use Rattle.vector.specs.Rows.{rows, segs};
+ghost use Rattle.cell.specs.Read.{polygonsIn};
+ghost use Rattle.clip.specs.Cell.{atMost};
+ghost use Rattle.clip.specs.Code.{Points, Segments};
+ghost use Rattle.clip.specs.View.{cut2};
+ghost use Rattle.stitch.specs.Code.{Below};
+ghost use Rattle.stitch.specs.Walk.{pointAt};
+ghost use Rattle.cuts.specs.Outcome.{GaveLine};
+ghost use Rattle.cuts.specs.Entries.{axis, frameIn, lineCut, lineOfSection, loopSegments, onLine, placedBy, sectionOf};
+ghost use Rattle.cuts.specs.Entries.{segmentOnLine};
+ghost use Rattle.cuts.specs.Code.{Fixed, meaning, placing};
+ghost use Rattle.line_cut.specs.Code.{Lines, Loop, Loops, onLineOf};
+use cell::Reading;
+use cell::SpaceType;
+use clip::plane::Cut;
+use cuts::Line;
+use cuts::Placing;
+use vector::Placed;
+use vector::Plane;
+use vector::Vec2;
+use vector::Vec3;
+
+// Cuts a single cell in space with the line through origin that has this direction: the segments, six numbers each.
+//
+// The cell is cut by a plane that contains the line, whose in-plane basis makes the line y = 0, and the loops of
+// that section are cut by it.
+pub fn slice_line_3d(
+    t: u8,
+    conn: &[u64],
+    xs: &[f64],
+    origin: &[f64],
+    direction: &[f64],
+    tol: f64,
+    numbers: &mut [f64],
+) -> Line
+    ensures { λ r. ⌜ GaveLine
+        (lineCut t (now (conn .entry)) (now (xs .entry)) (now (origin .entry)) (now (direction .entry)) tol
+        (length (now (numbers .entry))))
+        (meaning r) (now (numbers .entry)) (now (numbers .exit)) ⌝ }
+{
+    match cell::test_space_cell(t, conn, xs) {
+        Reading::Refused(k) => Line::Refused(k),
+        Reading::Cell { corners, faces: _ } => match place(origin, direction) {
+            Placing::Refused(k) => Line::Refused(k),
+            Placing::On(plane) => {
+                if 14 * corners > numbers.len() {
+                    return Line::Refused(7);
+                }
+                Line::Cut(line_cell(t, conn, xs, plane, tol, numbers))
+            }
+        },
+    }
+}
+
+// The cut of an accepted cell by the line y = 0 of a plane. Gives how many segments there are.
+fn line_cell(t: u8, conn: &[u64], xs: &[f64], plane: Plane, tol: f64, numbers: &mut [f64]) -> usize
+    requires { ⌜ Lines t (now conn) (now xs) (now numbers) ⌝ }
+    ensures { λ r. ⌜ Segments 3 (now (numbers .entry))
+        (lineOfSection (frameOf plane) tol
+        (sectionOf (frameOf plane) tol (polygonsIn t (now (conn .entry)) (now (xs .entry)))))
+        r (now (numbers .exit)) ⌝ }
+{
+    if t == SpaceType::PHED {
+        return line_phed(t, conn, xs, plane, tol, numbers);
+    }
+    line_fixed(t, conn, xs, plane, tol, numbers)
+}
+
+// The section of a polyhedron by the plane, and each of its loops cut by y = 0.
+fn line_phed(t: u8, conn: &[u64], xs: &[f64], plane: Plane, tol: f64, numbers: &mut [f64]) -> usize
+    requires { ⌜ Lines t (now conn) (now xs) (now numbers) ⌝ }
+    ensures { λ r. ⌜ Segments 3 (now (numbers .entry))
+        (lineOfSection (frameOf plane) tol
+        (sectionOf (frameOf plane) tol (polygonsIn t (now (conn .entry)) (now (xs .entry)))))
+        r (now (numbers .exit)) ⌝ }
+{
+    let mut points = [0.0f64; 1536];
+    let mut nodes = [0u32; 384];
+    let mut ends = [0u32; 128];
+    let mut polygon = [0.0f64; 768];
+    let mut clipped = [0.0f64; 1152];
+    let mut flat = [0.0f64; 2304];
+    let s = cuts::section_phed(t, conn, xs, plane, tol, &mut points, &mut nodes, &mut ends);
+    let n = s.nodes;
+    let f = s.loops;
+    cut_loops(
+        plane,
+        tol,
+        &points,
+        s.points,
+        &nodes[..n],
+        &ends[..f],
+        &mut polygon,
+        &mut clipped,
+        &mut flat,
+        numbers,
+    )
+}
+
+// The same for every other type.
+fn line_fixed(t: u8, conn: &[u64], xs: &[f64], plane: Plane, tol: f64, numbers: &mut [f64]) -> usize
+    requires { ⌜ Lines t (now conn) (now xs) (now numbers) × Fixed t ⌝ }
+    ensures { λ r. ⌜ Segments 3 (now (numbers .entry))
+        (lineOfSection (frameOf plane) tol
+        (sectionOf (frameOf plane) tol (polygonsIn t (now (conn .entry)) (now (xs .entry)))))
+        r (now (numbers .exit)) ⌝ }
+{
+    let mut points = [0.0f64; 144];
+    let mut nodes = [0u32; 36];
+    let mut ends = [0u32; 12];
+    let mut polygon = [0.0f64; 72];
+    let mut clipped = [0.0f64; 108];
+    let mut flat = [0.0f64; 216];
+    let s = cuts::section_fixed(t, conn, xs, plane, tol, &mut points, &mut nodes, &mut ends);
+    let n = s.nodes;
+    let f = s.loops;
+    cut_loops(
+        plane,
+        tol,
+        &points,
+        s.points,
+        &nodes[..n],
+        &ends[..f],
+        &mut polygon,
+        &mut clipped,
+        &mut flat,
+        numbers,
+    )
+}
+
+// Cuts each loop by y = 0 and writes the segments on the line. Gives how many there are.
+fn cut_loops(
+    plane: Plane,
+    tol: f64,
+    points: &[f64],
+    p: usize,
+    nodes: &[u32],
+    ends: &[u32],
+    polygon: &mut [f64],
+    clipped: &mut [f64],
+    flat: &mut [f64],
+    numbers: &mut [f64],
+) -> usize
+    requires { ⌜ Loops p (now points) (now nodes) (now ends) (now polygon) (now clipped) (now flat) (now numbers) ⌝ }
+    ensures { λ r. ⌜ Segments 3 (now (numbers .entry))
+        (onLineOf (frameOf plane) tol (rows 2 p (now (points .entry))) (now (ends .entry)) (now (nodes .entry)))
+        r (now (numbers .exit)) ⌝ }
+{
+    let mut k = 0;
+    let mut s = 0;
+    let mut i = 0;
+    while i < ends.len() {
+        let e = wide(ends[i]);
+        k = cut_loop(
+            plane,
+            tol,
+            points,
+            p,
+            &nodes[s..e],
+            polygon,
+            clipped,
+            flat,
+            numbers,
+            k,
+        );
+        s = e;
+        i += 1;
+    }
+    k
+}
+
+// Cuts one loop by y = 0: its segments on the line, after the `from` in numbers. Gives how many there are then.
+fn cut_loop(
+    plane: Plane,
+    tol: f64,
+    points: &[f64],
+    p: usize,
+    nodes: &[u32],
+    polygon: &mut [f64],
+    clipped: &mut [f64],
+    flat: &mut [f64],
+    numbers: &mut [f64],
+    from: usize,
+) -> usize
+    requires { ⌜ Loop p (now points) (now nodes) (now polygon) (now clipped) (now flat)
+        × (6 * (from + atMost (length (now nodes))) ≤ length (now numbers)) ⌝ }
+    ensures { λ r. ⌜ Segments 3 (now (numbers .entry))
+        (segs 3 from (now (numbers .entry))
+        ++ map (segmentOnLine (frameOf plane))
+        (loopSegments tol (rows 2 p (now (points .entry))) (now (nodes .entry))))
+        r (now (numbers .exit)) ⌝ }
+{
+    loop_points(points, p, nodes, polygon);
+    let k = clip::plane::plane_section_segments(polygon, nodes.len(), axis(tol), clipped, flat);
+    put_on_line(flat, k, plane, numbers, from)
+}
+
+// The line y = 0 with a tolerance.
+fn axis(tol: f64) -> Cut
+    ensures { λ r. ⌜ cut2 r ≡ axis tol ⌝ }
+{
+    Cut {
+        origin: Vec2 { x: 0.0, y: 0.0 },
+        normal: Vec2 { x: 0.0, y: 1.0 },
+        tol: tol,
+    }
+}
+
+// The points of a loop, one after the other, written to out.
+fn loop_points(points: &[f64], p: usize, nodes: &[u32], out: &mut [f64])
+    requires { ⌜ (2 * p ≤ length (now points)) × Below p (now nodes) × (2 * length (now nodes) ≤ length (now out)) ⌝ }
+    ensures { λ _. ⌜ Points 2 (now (out .entry)) (map (pointAt (rows 2 p (now (points .entry)))) (now (nodes .entry)))
+        (length (now (nodes .entry))) (now (out .exit)) ⌝ }
+{
+    let mut i = 0;
+    while i < nodes.len() {
+        let k = wide(nodes[i]);
+        vector::put2(out, i, vector::point2(points, k));
+        i += 1;
+    }
+}
+
+// Writes k segments as points of the line, after the `from` in out. Gives how many there are then.
+fn put_on_line(flat: &[f64], k: usize, plane: Plane, out: &mut [f64], from: usize) -> usize
+    requires { ⌜ (4 * k ≤ length (now flat)) × (6 * (from + k) ≤ length (now out)) ⌝ }
+    ensures { λ r. ⌜ Segments 3 (now (out .entry))
+        (segs 3 from (now (out .entry)) ++ map (segmentOnLine (frameOf plane)) (segs 2 k (now (flat .entry))))
+        r (now (out .exit)) ⌝ }
+{
+    let mut i = 0;
+    while i < k {
+        let j = 2 * (from + i);
+        vector::put3(out, j, on_line(plane, vector::point2(flat, 2 * i)));
+        vector::put3(out, j + 1, on_line(plane, vector::point2(flat, 2 * i + 1)));
+        i += 1;
+    }
+    from + k
+}
+
+// The point of the line with the coordinate a.x along it.
+fn on_line(plane: Plane, a: Vec2) -> Vec3
+    ensures { λ r. ⌜ vec3 r ≡ onLine (frameOf plane) (vec2 a) ⌝ }
+{
+    let o = plane.origin;
+    let u = plane.u;
+    o.plus(u.scaled(a.x))
+}
+
+// The plane that holds the line through origin with this direction, or refusal 5 or 6.
+fn place(origin: &[f64], direction: &[f64]) -> Placing
+    ensures { λ r. ⌜ placing r ≡ placedBy 3 (now (origin .entry)) (now (direction .entry))
+        (frameIn (lineOf (now (origin .entry)) (now (direction .entry)))) ⌝ }
+{
+    if origin.len() != 3 {
+        return Placing::Refused(5);
+    }
+    if direction.len() != 3 {
+        return Placing::Refused(5);
+    }
+    match Plane::of_line(vector::point3(origin, 0), vector::point3(direction, 0)) {
+        Placed::On(p) => Placing::On(p),
+        Placed::Nowhere => Placing::Refused(6),
+    }
+}
+
+// A node number as an index.
+fn wide(x: u32) -> usize
+    ensures { λ r. ⌜ r ≡ x ⌝ }
+{
+    x as usize
+}

@@ -1,7 +1,0 @@
--- The starred cases of document 01, as one claim that antt computes. Assumes nothing.
-use mathlib.Core.Path.{refl}
-use Rattle.section.specs.Table.{Worked, answered}
-
-pub worked : Worked
-unfolding answered
-worked = refl
