@@ -8,39 +8,42 @@ use lib.ListN.{length, set}
 use lib.Seq.{paste}
 use Rattle.vector.specs.Number.{f0, abs}
 use Rattle.vector.specs.Vector.{Vector}
+use Rattle.stitch.specs.declared.Counts.{Counts}
+use Rattle.stitch.specs.declared.Kind.the-variants.{Loop, Flat, Open}
+use Rattle.stitch.specs.declared.Rule.{Rule}
 use Rattle.stitch.specs.declared.Tally.{Tally}
-use Rattle.stitch.specs.Stitch.{signedArea, kindOf, turned}
+use Rattle.stitch.specs.Stitch.{signedArea, kindBy, counted, turned}
 use Rattle.stitch.specs.Code.{Finished, edgesIn}
 use Rattle.stitch.proofs.Loops.{turned-length}
 
-module _ (ps : List Vector) (tol2 : Float) (walked : List ℕ) (closed : Bool) (t : Tally) (nodes ends : List ℕ) where
-  abbrev Ends : Tally → List ℕ → List ℕ → Type 0
-  Ends r nodes′ ends′ =
-      Finished (kindOf closed (lt tol2 (abs (signedArea ps walked)))) (turned ps walked) (edgesIn closed (length walked)) t nodes ends r
-      nodes′ ends′
+module _ (ps : List Vector) (rule : Rule) (walked : List ℕ) (closed : Bool) (tally : Tally) (nodes ends : List ℕ) where
+  -- the walk has ended with these loops and counts
+  abbrev Ends : ℕ → Counts → List ℕ → List ℕ → Type 0
+  Ends l d nodes′ ends′ =
+      Finished (kindBy ps rule closed walked) (turned ps walked) (edgesIn closed (length walked)) tally nodes ends
+      (record { loops = l; counts = d }) nodes′ ends′
 
-  pub finish-open : closed ≡ false
-      → Ends (record { nodes = t .nodes; loops = t .loops; flat = t .flat; opened = t .opened + (length walked - 1) }) nodes ends
-  finish-open e = rw e (record { tally-is = refl; nodes-are = refl; ends-are = refl })
+  pub finish-open : {c : Counts} → closed ≡ false → c ≡ counted Open (length walked - 1) (tally .counts) → Ends (tally .loops) c nodes ends
+  unfolding kindBy
+  finish-open e q = rw (e, q) (record { tally-is = refl; nodes-are = refl; ends-are = refl })
 
-  module _ (area size : Float) (c : closed ≡ true) (ea : area ≡ signedArea ps walked) (es : size ≡ abs area) where
-    large : lt tol2 (abs (signedArea ps walked)) ≡ lt tol2 size
-    large = ap (λ (x : Float). lt tol2 (abs x)) (sym ea) ∙ ap (lt tol2) (sym es)
+  module _ (area size : Float) (back : closed ≡ true) (ea : area ≡ signedArea ps walked) (es : size ≡ abs area) where
+    large : lt (rule .tol2) (abs (signedArea ps walked)) ≡ lt (rule .tol2) size
+    large = ap (λ (x : Float). lt (rule .tol2) (abs x)) (sym ea) ∙ ap (lt (rule .tol2)) (sym es)
 
-    pub finish-flat : lt tol2 size ≡ false
-        → Ends (record { nodes = t .nodes; loops = t .loops; flat = t .flat + length walked; opened = t .opened }) nodes ends
-    finish-flat e = rw (c, large, e) (record { tally-is = refl; nodes-are = refl; ends-are = refl })
+    pub finish-flat : {c : Counts} → lt (rule .tol2) size ≡ false → c ≡ counted Flat (length walked) (tally .counts) → Ends (tally .loops) c nodes ends
+    unfolding kindBy
+    finish-flat e q = rw (back, large, e, q) (record { tally-is = refl; nodes-are = refl; ends-are = refl })
 
-    pub finish-loop : (nodes′ : List ℕ) → lt tol2 size ≡ true
-        → nodes′ ≡ paste nodes (t .nodes) (cond (lt area f0) (reverse walked) walked) (length walked)
-        → Ends (record { nodes = t .nodes + length walked; loops = t .loops + 1; flat = t .flat; opened = t .opened }) nodes′
-        (set ends (t .loops) (t .nodes + length walked))
-    unfolding turned
-    finish-loop nodes′ e w =
+    pub finish-loop : {c : Counts} (nodes′ : List ℕ) → lt (rule .tol2) size ≡ true → c ≡ counted Loop (length walked) (tally .counts)
+        → nodes′ ≡ paste nodes (tally .counts .«in_loops») (cond (lt area f0) (reverse walked) walked) (length walked)
+        → Ends (tally .loops + 1) c nodes′ (set ends (tally .loops) (tally .counts .«in_loops» + length walked))
+    unfolding kindBy turned
+    finish-loop nodes′ e q w =
         let n = turned-length ps walked in
-        rw (c, large, e)
+        rw (back, large, e, q)
         (record {
           tally-is = refl;
-          nodes-are = w ∙ rw ea (ap (paste nodes (t .nodes) (turned ps walked)) (sym n));
+          nodes-are = w ∙ rw ea (ap (paste nodes (tally .counts .«in_loops») (turned ps walked)) (sym n));
           ends-are = refl;
         })

@@ -5,6 +5,7 @@ pub mod Once
 pub mod Even
 pub mod Joined
 pub mod Loops
+pub mod Counted
 pub mod Listed
 pub mod Claim
 pub mod Buffers

@@ -1,20 +1,21 @@
 -- The loops returned: their sides are edges of the walks, reversed or not, so each is listed and none is used twice. Assumes nothing.
 use mathlib.Core.Path.{_≡_, refl, ap, sym, _∙_, subst}
 use mathlib.Core.List.{List, [], _∷_, _++_, map, reverse, reverseAux, flatten}
-use mathlib.Core.Bool.{Bool, true, false, cond}
+use mathlib.Core.Bool.{Bool, true, false, false≢true, cond}
 use Prim.Native.Nat.{ℕ, suc, _+_, _*_, _≤_, _<_}
 use native.Mathlib.Nat.{not-suc-le-zero}
 use native.Mathlib.Omega.{arith}
 use lib.Dec.{eqb}
-use lib.Ieee.{Float, lt}
+use lib.Ieee.{lt}
 use lib.ListN.{length, getD, length-append, length-reverseAux}
 use borrow.Author.Tests.{eq-eqb}
 use Rattle.vector.specs.Number.{f0}
 use Rattle.vector.specs.Vector.{Vector}
 use Rattle.weld.specs.Weld.{Edge, same, between, listed, Simple, Distinct}
 use Rattle.weld.proofs.Edges.{between-sym, same-eq, same-self, listed-at}
+use Rattle.stitch.specs.declared.Rule.{Rule}
 use Rattle.stitch.specs.Walk.{edgeAt, Walk}
-use Rattle.stitch.specs.Stitch.{Kind, Loop, Flat, Open, signedArea, kindOf, kind, turned, ifLoop, loops}
+use Rattle.stitch.specs.Stitch.{signedArea, kindOf, kindBy, kind, isLoop, turned, loops}
 use Rattle.stitch.specs.Claim.{bit, times, timesEdge, All, edgesWalked, Joined, trail, lastOr, steps, sides, sidesOf}
 use Rattle.stitch.specs.Code.{edgesIn}
 use Rattle.stitch.proofs.Lists.{all-map, Fair, fair-head, fair-tail, fair-apart}
@@ -173,26 +174,25 @@ module _ (es : List Edge) (distinct : Distinct es) where
       by-test false q r = omega arith
 
 -- ---- the loops of walks
-pub kind-closed : (ps : List Vector) (t : Float) (w : Walk) → kind ps t w ≡ Loop → w .closed ≡ true
-unfolding kind
-kind-closed ps t w = by-test (w .closed) (lt t _)
+pub loop-closed : (ps : List Vector) (rule : Rule) (w : Walk) → isLoop (kind ps rule w) ≡ true → w .closed ≡ true
+unfolding kindBy
+loop-closed ps rule w = by-test (w .closed) (lt (rule .tol2) _)
   where
-    by-test : (b c : Bool) → kindOf b c ≡ Loop → b ≡ true
+    by-test : (b c : Bool) → isLoop (kindOf b c) ≡ true → b ≡ true
     by-test true c e = refl
-    by-test false c e = let z : _≡_ {A = ℕ} 0 1 = cc in absurd (omega arith)
+    by-test false c e = absurd (false≢true e)
 
 -- a property of every loop from one of every walk that is a loop
-loops-all : (P : List ℕ → Type 0) (ps : List Vector) (t : Float) (ws : List Walk)
-    → All (λ w. kind ps t w ≡ Loop → P (turned ps (w .nodes))) ws → All P (loops ps t ws)
+loops-all : (P : List ℕ → Type 0) (ps : List Vector) (rule : Rule) (ws : List Walk)
+    → All (λ w. isLoop (kind ps rule w) ≡ true → P (turned ps (w .nodes))) ws → All P (loops ps rule ws)
 unfolding loops
-loops-all P ps t [] h = tt
-loops-all P ps t (w ∷ ws) h = by-kind (kind ps t w) (h .0) (loops-all P ps t ws (h .1))
+loops-all P ps rule [] h = tt
+loops-all P ps rule (w ∷ ws) h = by-test (isLoop (kind ps rule w)) (h .0) (loops-all P ps rule ws (h .1))
   where
-    by-kind : (κ : Kind) → (κ ≡ Loop → P (turned ps (w .nodes))) → All P (loops ps t ws)
-        → All P (ifLoop κ (turned ps (w .nodes)) (loops ps t ws))
-    by-kind Loop x r = (x refl, r)
-    by-kind Flat x r = r
-    by-kind Open x r = r
+    by-test : (b : Bool) → (b ≡ true → P (turned ps (w .nodes))) → All P (loops ps rule ws)
+        → All P (cond b (turned ps (w .nodes) ∷ loops ps rule ws) (loops ps rule ws))
+    by-test true x r = (x refl, r)
+    by-test false x r = r
 
 -- a property of every edge that stands in a list holds throughout it
 all-standing : (Q : Edge → Type 0) (l : List Edge) → ((e : Edge) → 0 < timesEdge e l → Q e) → All Q l
@@ -200,72 +200,70 @@ all-standing Q [] h = tt
 all-standing Q (f ∷ l) h =
     (h f (let s : bit (same f f) ≡ 1 = rw (same-self f) in omega arith), all-standing Q l (λ e z. h e (omega arith)))
 
-module _ (ps : List Vector) (t : Float) (es : List Edge) (simple : Simple es) (distinct : Distinct es) where
-  pub loops-three : (ws : List Walk) → All (Sound es) ws → All (λ l. 3 ≤ length l) (loops ps t ws)
+module _ (ps : List Vector) (rule : Rule) (es : List Edge) (simple : Simple es) (distinct : Distinct es) where
+  pub loops-three : (ws : List Walk) → All (Sound es) ws → All (λ l. 3 ≤ length l) (loops ps rule ws)
   loops-three ws a =
-      loops-all (λ l. 3 ≤ length l) ps t ws
-      (all-map (Sound es) (λ w. kind ps t w ≡ Loop → 3 ≤ length (turned ps (w .nodes)))
-      (λ w g κ. omega (arith, sound-three es simple distinct w g (kind-closed ps t w κ), turned-length ps (w .nodes))) ws a)
+      loops-all (λ l. 3 ≤ length l) ps rule ws
+      (all-map (Sound es) (λ w. isLoop (kind ps rule w) ≡ true → 3 ≤ length (turned ps (w .nodes)))
+      (λ w g κ. omega (arith, sound-three es simple distinct w g (loop-closed ps rule w κ), turned-length ps (w .nodes))) ws a)
 
-  pub loops-listed : (ws : List Walk) → All (Sound es) ws → All (λ l. All (λ e. listed e es ≡ true) (sides l)) (loops ps t ws)
+  pub loops-listed : (ws : List Walk) → All (Sound es) ws → All (λ l. All (λ e. listed e es ≡ true) (sides l)) (loops ps rule ws)
   loops-listed ws a =
-      loops-all (λ l. All (λ e. listed e es ≡ true) (sides l)) ps t ws
-      (all-map (Sound es) (λ w. kind ps t w ≡ Loop → All (λ e. listed e es ≡ true) (sides (turned ps (w .nodes))))
+      loops-all (λ l. All (λ e. listed e es ≡ true) (sides l)) ps rule ws
+      (all-map (Sound es) (λ w. isLoop (kind ps rule w) ≡ true → All (λ e. listed e es ≡ true) (sides (turned ps (w .nodes))))
       (λ w g κ. all-standing (λ e. listed e es ≡ true) (sides (turned ps (w .nodes)))
       (λ e h.
       let x = turned-sides ps (w .nodes) e in
-      let y = closed-sides es w g (kind-closed ps t w κ) e in
+      let y = closed-sides es w g (loop-closed ps rule w κ) e in
       numbered-listed es distinct e (w .edges) (g .fair) (omega arith))) ws a)
 
   -- the sides of all loops are among the edges of all walks
   sides-among : (e : Edge) (ws : List Walk) → All (Sound es) ws
-      → timesEdge e (sidesOf (loops ps t ws)) ≤ timesEdge e (map (edgeAt es) (edgesWalked ws))
+      → timesEdge e (sidesOf (loops ps rule ws)) ≤ timesEdge e (map (edgeAt es) (edgesWalked ws))
   unfolding loops
   sides-among e [] a = omega arith
   sides-among e (w ∷ ws) a =
       let m = map-append (edgeAt es) (w .edges) (edgesWalked ws) in
       let b = times-edges e (map (edgeAt es) (w .edges)) (map (edgeAt es) (edgesWalked ws)) in
       let c = ap (timesEdge e) m in
-      let d = by-kind (kind ps t w) (kind-closed ps t w) (sides-among e ws (a .1)) in
+      let d = by-test (isLoop (kind ps rule w)) (loop-closed ps rule w) (sides-among e ws (a .1)) in
       omega arith
     where
-      by-kind : (κ : Kind) → (κ ≡ Loop → w .closed ≡ true)
-          → timesEdge e (sidesOf (loops ps t ws)) ≤ timesEdge e (map (edgeAt es) (edgesWalked ws))
-          → timesEdge e (sidesOf (ifLoop κ (turned ps (w .nodes)) (loops ps t ws)))
+      by-test : (b : Bool) → (b ≡ true → w .closed ≡ true)
+          → timesEdge e (sidesOf (loops ps rule ws)) ≤ timesEdge e (map (edgeAt es) (edgesWalked ws))
+          → timesEdge e (sidesOf (cond b (turned ps (w .nodes) ∷ loops ps rule ws) (loops ps rule ws)))
           ≤ timesEdge e (map (edgeAt es) (w .edges)) + timesEdge e (map (edgeAt es) (edgesWalked ws))
-      by-kind Loop q r =
+      by-test true q r =
           let x = turned-sides ps (w .nodes) e in
           let y = closed-sides es w (a .0) (q refl) e in
-          let z = times-edges e (sides (turned ps (w .nodes))) (sidesOf (loops ps t ws)) in
+          let z = times-edges e (sides (turned ps (w .nodes))) (sidesOf (loops ps rule ws)) in
           omega arith
-      by-kind Flat q r = omega arith
-      by-kind Open q r = omega arith
+      by-test false q r = omega arith
 
   pub loops-unrepeated : (ws : List Walk) → All (Sound es) ws → Fair (length es) (edgesWalked ws)
-      → (e : Edge) → timesEdge e (sidesOf (loops ps t ws)) ≤ 1
+      → (e : Edge) → timesEdge e (sidesOf (loops ps rule ws)) ≤ 1
   loops-unrepeated ws a f e =
       let x = sides-among e ws a in
       let y = numbered-once es distinct e (edgesWalked ws) f in
       omega arith
 
   -- and their nodes no more than the edges
-  pub loops-few : (ws : List Walk) → All (Sound es) ws → length (flatten (loops ps t ws)) ≤ length (edgesWalked ws)
+  pub loops-few : (ws : List Walk) → All (Sound es) ws → length (flatten (loops ps rule ws)) ≤ length (edgesWalked ws)
   unfolding loops flatten
   loops-few [] a = omega arith
   loops-few (w ∷ ws) a =
       let b = length-append (w .edges) (edgesWalked ws) in
-      let d = by-kind (kind ps t w) (kind-closed ps t w) (loops-few ws (a .1)) in
+      let d = by-test (isLoop (kind ps rule w)) (loop-closed ps rule w) (loops-few ws (a .1)) in
       omega arith
     where
-      by-kind : (κ : Kind) → (κ ≡ Loop → w .closed ≡ true) → length (flatten (loops ps t ws)) ≤ length (edgesWalked ws)
-          → length (flatten (ifLoop κ (turned ps (w .nodes)) (loops ps t ws))) ≤ length (w .edges) + length (edgesWalked ws)
-      by-kind Loop q r =
+      by-test : (b : Bool) → (b ≡ true → w .closed ≡ true) → length (flatten (loops ps rule ws)) ≤ length (edgesWalked ws)
+          → length (flatten (cond b (turned ps (w .nodes) ∷ loops ps rule ws) (loops ps rule ws))) ≤ length (w .edges) + length (edgesWalked ws)
+      by-test true q r =
           let x = turned-length ps (w .nodes) in
           let y = closed-length es w (a .0) (q refl) in
-          let z = length-append (turned ps (w .nodes)) (flatten (loops ps t ws)) in
+          let z = length-append (turned ps (w .nodes)) (flatten (loops ps rule ws)) in
           omega arith
-      by-kind Flat q r = omega arith
-      by-kind Open q r = omega arith
+      by-test false q r = omega arith
 
 pub three-each : (ls : List (List ℕ)) → All (λ l. 3 ≤ length l) ls → 3 * length ls ≤ length (flatten ls)
 unfolding flatten

@@ -1,5 +1,5 @@
 -- The loop over the edges: the loops written so far, the counts, and that a turn keeps them. Assumes nothing.
-use mathlib.Core.Path.{_≡_, refl, ap, sym, _∙_, subst}
+use mathlib.Core.Path.{_≡_, refl, ap, sym, _∙_}
 use mathlib.Core.List.{List, [], _∷_, _++_, append-assoc, append-nil, flatten}
 use mathlib.Core.Bool.{Bool, true, false}
 use Prim.Native.Nat.{ℕ, suc, _+_, _≤_, _<_}
@@ -13,15 +13,16 @@ use Rattle.vector.specs.Rows.{rows, over, endsFrom}
 use Rattle.weld.specs.Weld.{Edge}
 use Rattle.weld.specs.Code.{edgesOf}
 use Rattle.weld.proofs.Lists.{edges-length}
+use Rattle.stitch.specs.declared.Rule.{Rule}
 use Rattle.stitch.specs.declared.Tally.{Tally}
 use Rattle.stitch.specs.Walk.{noEdge, Walk, walkFrom, walksFrom, walks}
-use Rattle.stitch.specs.Stitch.{Kind, Loop, Flat, Open, Counts, kind, turned, loops, countsOf}
+use Rattle.stitch.specs.Stitch.{kind, isLoop, turned, loops, inWalks, counted, countsFrom, unwalked, countsOf}
 use Rattle.stitch.specs.Code.{unused, Finished, Ready, Spare, Counting, Turn, Wrote}
 use Rattle.stitch.proofs.Marks.{fresh-unused}
 use Rattle.stitch.proofs.Once.{walk-left, walk-length}
-use Rattle.stitch.proofs.Loops.{turned-length, kind-closed}
-use Rattle.stitch.proofs.Turns.{loop-room}
-use Rattle.stitch.proofs.Claim.{counts-listed}
+use Rattle.stitch.proofs.Loops.{turned-length, loop-closed}
+use Rattle.stitch.proofs.Counted.{counted-in-walks, counted-in-loops}
+use Rattle.stitch.proofs.Turns.{Fit, loop-fits}
 
 -- ---- writing over the start of a buffer, and then more
 pub over-more : (a l xs : List ℕ) → paste (over a xs) (length a) l (length l) ≡ over (a ++ l) xs
@@ -77,35 +78,31 @@ ends-written done l k e ends ends′ w c q h =
     (over-set (endsFrom 0 done) ends (0 + length (flatten done) + length l) (omega arith))
 
 -- ---- the loop's invariant, of all walks ws, before edge k: the loops done so far, and the walks v that are left
-pub record Stitching (ps : List Vector) (t : Float) (m : ℕ) (ws v : List Walk) (us : List Bool) (y : Tally)
+pub record Stitching (ps : List Vector) (rule : Rule) (m : ℕ) (ws v : List Walk) (us : List Bool) (tally : Tally)
     (nodes nodes′ ends ends′ : List ℕ) : Type 0 where
   pub done : List (List ℕ)
-  pub loops-are : loops ps t ws ≡ done ++ loops ps t v
-  pub in-loops : countsOf ps t m ws .inLoops ≡ y .nodes + countsOf ps t m v .inLoops
-  pub in-flat : countsOf ps t m ws .flat ≡ y .flat + countsOf ps t m v .flat
-  pub in-open : countsOf ps t m ws .opened ≡ y .opened + countsOf ps t m v .opened
+  pub loops-are : loops ps rule ws ≡ done ++ loops ps rule v
+  pub counts-are : countsOf ps rule m ws ≡ countsFrom ps rule (tally .counts) v
   pub nodes-are : nodes′ ≡ over (flatten done) nodes
   pub ends-are : ends′ ≡ over (endsFrom 0 done) ends
-  pub node-count : y .nodes ≡ length (flatten done)
-  pub loop-count : y .loops ≡ length done
-  pub counting : Counting y us
+  pub node-count : tally .counts .«in_loops» ≡ length (flatten done)
+  pub loop-count : tally .loops ≡ length done
+  pub counting : Counting tally us
 
 -- the walks left at edge k
 abbrev pub leftAt : List Vector → List Edge → ℕ → List Bool → List Walk
 leftAt ps es k us = walksFrom ps es (drop k es) k (getD us k true) us
 
-pub stitching-start : (ps : List Vector) (es : List Edge) (t : Float) (m : ℕ) (us : List Bool) (nodes ends : List ℕ)
+pub stitching-start : (ps : List Vector) (es : List Edge) (rule : Rule) (m : ℕ) (us : List Bool) (nodes ends : List ℕ)
     → us ≡ replicate (length es) false
-    → Stitching ps t m (walks ps es) (leftAt ps es 0 us) us (record { nodes = 0; loops = 0; flat = 0; opened = 0 }) nodes nodes ends ends
+    → Stitching ps rule m (walks ps es) (leftAt ps es 0 us) us (record { loops = 0; counts = unwalked m }) nodes nodes ends ends
 unfolding flatten endsFrom
-stitching-start ps es t m us nodes ends e =
+stitching-start ps es rule m us nodes ends e =
     rw e
     (record {
       done = [];
       loops-are = refl;
-      in-loops = omega arith;
-      in-flat = omega arith;
-      in-open = omega arith;
+      counts-are = refl;
       nodes-are = refl;
       ends-are = refl;
       node-count = refl;
@@ -117,27 +114,20 @@ stitching-start ps es t m us nodes ends e =
           };
     })
 
-pub stitching-end : (ps : List Vector) (es : List Edge) (t : Float) (m : ℕ) (ws : List Walk) (k : ℕ) (us : List Bool) (y : Tally)
-    (nodes nodes′ ends ends′ : List ℕ) → Stitching ps t m ws (leftAt ps es k us) us y nodes nodes′ ends ends′ → length es ≤ k
-    → countsOf ps t m ws .listed ≡ m → Wrote ps t m ws y nodes nodes′ ends ends′
-unfolding walksFrom loops countsOf
-stitching-end ps es t m ws k us y nodes nodes′ ends ends′ g h c =
+pub stitching-end : (ps : List Vector) (es : List Edge) (rule : Rule) (m : ℕ) (ws : List Walk) (k : ℕ) (us : List Bool) (tally : Tally)
+    (nodes nodes′ ends ends′ : List ℕ) → Stitching ps rule m ws (leftAt ps es k us) us tally nodes nodes′ ends ends′ → length es ≤ k
+    → Wrote ps rule m ws tally nodes nodes′ ends ends′
+unfolding walksFrom loops countsFrom
+stitching-end ps es rule m ws k us tally nodes nodes′ ends ends′ g h =
     let none : leftAt ps es k us ≡ [] = ap (λ (l : List Edge). walksFrom ps es l k (getD us k true) us) (drop-of-length-le es {i = k} h) in
-    let all : loops ps t ws ≡ g .done = g .loops-are ∙ ap (λ (v : List Walk). g .done ++ loops ps t v) none ∙ append-nil (g .done) in
-    let a : countsOf ps t m ws .inLoops ≡ y .nodes + 0 = rw none at (g .in-loops) in
-    let b : countsOf ps t m ws .flat ≡ y .flat + 0 = rw none at (g .in-flat) in
-    let d : countsOf ps t m ws .opened ≡ y .opened + 0 = rw none at (g .in-open) in
+    let all : loops ps rule ws ≡ g .done = g .loops-are ∙ ap (λ (v : List Walk). g .done ++ loops ps rule v) none ∙ append-nil (g .done) in
     record {
       nodes-are = rw all (g .nodes-are);
       ends-are = rw all (g .ends-are);
       node-count = rw all (g .node-count);
       loop-count = rw all (g .loop-count);
-      counts-are = counts-same (countsOf ps t m ws) m (y .nodes) (y .flat) (y .opened) c (omega arith) (omega arith) (omega arith);
+      counts-are = g .counts-are ∙ ap (countsFrom ps rule (tally .counts)) none;
     }
-  where
-    counts-same : (c : Counts) (l i f o : ℕ) → c .listed ≡ l → c .inLoops ≡ i → c .flat ≡ f → c .opened ≡ o
-        → c ≡ record { listed = l; inLoops = i; flat = f; opened = o }
-    counts-same c l i f o a b d e = rw (← a, ← b, ← d, ← e)
 
 -- ---- a turn
 module _ (ps : List Vector) (es : List Edge) (k : ℕ) (h : k < length es) (us : List Bool) where
@@ -149,14 +139,8 @@ module _ (ps : List Vector) (es : List Edge) (k : ℕ) (h : k < length es) (us :
   unfolding walksFrom
   left-free e = rw (add-one, drop-cons es k noEdge h, e)
 
--- what a loop asks: room for its end, as many nodes as edges, and three at least
-pub record Fit (w : Walk) (y : Tally) (ends : List ℕ) : Type 0 where
-  pub for-end : y .loops < length ends
-  pub same : length (w .nodes) ≡ length (w .edges)
-  pub three : 3 ≤ length (w .edges)
-
-module _ (ps : List Vector) (es : List Edge) (t : Float) (m : ℕ) (ws : List Walk) (k : ℕ) (us : List Bool) (y : Tally)
-    (nodes nodes′ ends ends′ : List ℕ) (g : Stitching ps t m ws (leftAt ps es k us) us y nodes nodes′ ends ends′) (h : k < length es)
+module _ (ps : List Vector) (es : List Edge) (rule : Rule) (m : ℕ) (ws : List Walk) (k : ℕ) (us : List Bool) (tally : Tally)
+    (nodes nodes′ ends ends′ : List ℕ) (g : Stitching ps rule m ws (leftAt ps es k us) us tally nodes nodes′ ends ends′) (h : k < length es)
     (us′ : List Bool) (r : Tally) (nodes″ ends″ : List ℕ) where
   abbrev w : Walk
   w = walkFrom ps es k us
@@ -164,136 +148,93 @@ module _ (ps : List Vector) (es : List Edge) (t : Float) (m : ℕ) (ws : List Wa
   abbrev v : List Walk
   v = leftAt ps es (k + 1) (w .used)
 
-  step-used : getD us k true ≡ true → us′ ≡ us → r ≡ y → nodes″ ≡ nodes′ → ends″ ≡ ends′
-      → Stitching ps t m ws (leftAt ps es (k + 1) us′) us′ r nodes nodes″ ends ends″
+  step-used : getD us k true ≡ true → us′ ≡ us → r ≡ tally → nodes″ ≡ nodes′ → ends″ ≡ ends′
+      → Stitching ps rule m ws (leftAt ps es (k + 1) us′) us′ r nodes nodes″ ends ends″
   step-used e a b c d = rw (a, b, c, d) (rw (left-used ps es k h us e) at g)
 
-  module _ (free : getD us k true ≡ false) (marks : us′ ≡ w .used) where
+  module _ (free : getD us k true ≡ false) (marks : us′ ≡ w .used)
+      (f : Finished (kind ps rule w) (turned ps (w .nodes)) (length (w .edges)) tally nodes′ ends′ r nodes″ ends″) where
     -- the invariant with the walk in front of those that are left
-    before : Stitching ps t m ws (w ∷ v) us y nodes nodes′ ends ends′
+    before : Stitching ps rule m ws (w ∷ v) us tally nodes nodes′ ends ends′
     before = rw (left-free ps es k h us free) at g
 
-    left : (n : ℕ) → n ≡ y .nodes + y .flat + y .opened + length (w .edges) → n + unused (w .used) ≤ length (w .used)
-    left n e =
+    left : inWalks (counted (kind ps rule w) (length (w .edges)) (tally .counts)) + unused (w .used) ≤ length (w .used)
+    left =
         let a = walk-left ps es k us free in
         let b = walk-length ps es k us free in
         let c = before .counting .left in
+        let d = counted-in-walks (kind ps rule w) (length (w .edges)) (tally .counts) in
         omega arith
 
-    -- the walk is no loop
-    step-other : (κ : Kind) → kind ps t w ≡ κ → (κ ≡ Loop → ⊥)
-        → Finished κ (turned ps (w .nodes)) (length (w .edges)) y nodes′ ends′ r nodes″ ends″
-        → Stitching ps t m ws v (w .used) r nodes nodes″ ends ends″
-    unfolding loops countsOf
-    step-other Loop e n f = absurd (n refl)
-    step-other Flat e n f =
+    -- the walk is not returned, of whatever kind it is
+    step-other : isLoop (kind ps rule w) ≡ false → Stitching ps rule m ws v (w .used) r nodes nodes″ ends ends″
+    unfolding loops countsFrom
+    step-other e =
         let b = before in
-        let li = rw e at (b .in-loops) in
-        let lf = rw e at (b .in-flat) in
-        let lo = rw e at (b .in-open) in
-        rw (f .tally-is, f .nodes-are, f .ends-are)
+        let i = rw e at (counted-in-loops (kind ps rule w) (length (w .edges)) (tally .counts)) in
+        rw (f .tally-is, f .nodes-are, f .ends-are, e)
         (record {
           done = b .done;
           loops-are = b .loops-are ∙ rw e;
-          in-loops = li;
-          in-flat = omega arith;
-          in-open = lo;
+          counts-are = b .counts-are;
           nodes-are = b .nodes-are;
           ends-are = b .ends-are;
-          node-count = b .node-count;
+          node-count = i ∙ b .node-count;
           loop-count = b .loop-count;
-          counting = record { left = left _ (omega arith); three = b .counting .three };
-        })
-    step-other Open e n f =
-        let b = before in
-        let li = rw e at (b .in-loops) in
-        let lf = rw e at (b .in-flat) in
-        let lo = rw e at (b .in-open) in
-        rw (f .tally-is, f .nodes-are, f .ends-are)
-        (record {
-          done = b .done;
-          loops-are = b .loops-are ∙ rw e;
-          in-loops = li;
-          in-flat = lf;
-          in-open = omega arith;
-          nodes-are = b .nodes-are;
-          ends-are = b .ends-are;
-          node-count = b .node-count;
-          loop-count = b .loop-count;
-          counting = record { left = left _ (omega arith); three = b .counting .three };
+          counting = record { left = left; three = let c = b .counting .three in omega (arith, i) };
         })
 
-    step-loop : kind ps t w ≡ Loop → Fit w y ends → Finished Loop (turned ps (w .nodes)) (length (w .edges)) y nodes′ ends′ r nodes″ ends″
-        → Stitching ps t m ws v (w .used) r nodes nodes″ ends ends″
-    unfolding loops countsOf
-    step-loop e fit f =
+    step-loop : isLoop (kind ps rule w) ≡ true → Fit w tally ends → Stitching ps rule m ws v (w .used) r nodes nodes″ ends ends″
+    unfolding loops countsFrom
+    step-loop e fit =
         let b = before in
         let l = turned ps (w .nodes) in
         let ll : length l ≡ length (w .edges) = turned-length ps (w .nodes) ∙ fit .same in
         let done = b .done in
-        let li = rw e at (b .in-loops) in
-        let lf = rw e at (b .in-flat) in
-        let lo = rw e at (b .in-open) in
-        rw (f .tally-is)
+        let i = rw e at (counted-in-loops (kind ps rule w) (length (w .edges)) (tally .counts)) in
+        rw (f .tally-is, f .nodes-are, f .ends-are, e)
         (record {
           done = done ++ l ∷ [];
-          loops-are = b .loops-are ∙ rw e (sym (append-assoc done (l ∷ []) (loops ps t v)));
-          in-loops = omega arith;
-          in-flat = lf;
-          in-open = lo;
-          nodes-are = f .nodes-are ∙ nodes-written done l (y .nodes) nodes nodes′ (b .nodes-are) (b .node-count);
+          loops-are = b .loops-are ∙ rw e (sym (append-assoc done (l ∷ []) (loops ps rule v)));
+          counts-are = b .counts-are;
+          nodes-are = nodes-written done l (tally .counts .«in_loops») nodes nodes′ (b .nodes-are) (b .node-count);
           ends-are =
-              f .ends-are
-              ∙ ends-written done l (y .loops) (y .nodes + length (w .edges)) ends ends′ (b .ends-are) (b .loop-count)
+              ends-written done l (tally .loops) (tally .counts .«in_loops» + length (w .edges)) ends ends′ (b .ends-are) (b .loop-count)
               (let c = b .node-count in omega arith) (fit .for-end);
-          node-count = let c = b .node-count in let d = length-append (flatten done) l in rw (flatten-snoc done l) (omega arith);
+          node-count = let c = b .node-count in let d = length-append (flatten done) l in rw (flatten-snoc done l) (omega (arith, i));
           loop-count = let c = b .loop-count in let d = length-append done (l ∷ []) in omega arith;
-          counting = record { left = left _ (omega arith); three = let c = b .counting .three in omega (arith, fit .three) };
+          counting = record { left = left; three = let c = b .counting .three in omega (arith, fit .three, i) };
         })
 
-    step-free : (w .closed ≡ true → Fit w y ends)
-        → Finished (kind ps t w) (turned ps (w .nodes)) (length (w .edges)) y nodes′ ends′ r nodes″ ends″
-        → Stitching ps t m ws (leftAt ps es (k + 1) us′) us′ r nodes nodes″ ends ends″
-    step-free fit f = rw marks (by-kind (kind ps t w) refl)
+    step-free : (w .closed ≡ true → Fit w tally ends) → Stitching ps rule m ws (leftAt ps es (k + 1) us′) us′ r nodes nodes″ ends ends″
+    step-free fit = rw marks (by-test (isLoop (kind ps rule w)) refl)
       where
-        by-kind : (κ : Kind) → kind ps t w ≡ κ → Stitching ps t m ws v (w .used) r nodes nodes″ ends ends″
-        by-kind Loop e =
-            step-loop e (fit (kind-closed ps t w e))
-            (subst (λ (κ : Kind). Finished κ (turned ps (w .nodes)) (length (w .edges)) y nodes′ ends′ r nodes″ ends″) e f)
-        by-kind Flat e =
-            step-other Flat e (λ z. apart z)
-            (subst (λ (κ : Kind). Finished κ (turned ps (w .nodes)) (length (w .edges)) y nodes′ ends′ r nodes″ ends″) e f)
-          where
-            apart : Flat ≡ Loop → ⊥
-            apart z = let q : _≡_ {A = ℕ} 0 1 = cc in omega arith
-        by-kind Open e =
-            step-other Open e (λ z. apart z)
-            (subst (λ (κ : Kind). Finished κ (turned ps (w .nodes)) (length (w .edges)) y nodes′ ends′ r nodes″ ends″) e f)
-          where
-            apart : Open ≡ Loop → ⊥
-            apart z = let q : _≡_ {A = ℕ} 0 1 = cc in omega arith
+        by-test : (b : Bool) → isLoop (kind ps rule w) ≡ b → Stitching ps rule m ws v (w .used) r nodes nodes″ ends ends″
+        by-test true e = step-loop e (fit (loop-closed ps rule w e))
+        by-test false e = step-other e
 
-  pub stitching-step : (b : Bool) → b ≡ getD us k true → (b ≡ false → w .closed ≡ true → Fit w y ends)
-      → Turn ps es t k b us y nodes′ ends′ us′ r nodes″ ends″ → Stitching ps t m ws (leftAt ps es (k + 1) us′) us′ r nodes nodes″ ends ends″
+  pub stitching-step : (b : Bool) → b ≡ getD us k true → (b ≡ false → w .closed ≡ true → Fit w tally ends)
+      → Turn ps es rule k b us tally nodes′ ends′ us′ r nodes″ ends″
+      → Stitching ps rule m ws (leftAt ps es (k + 1) us′) us′ r nodes nodes″ ends ends″
   stitching-step true e fit u = step-used (sym e) (u .0) (u .1) (u .2) (u .3)
-  stitching-step false e fit u = step-free (sym e) (u .0) (fit refl) (u .1)
+  stitching-step false e fit u = step-free (sym e) (u .0) (u .1) (fit refl)
 
 -- ---- in the words of the code
-pub record Looping (n : ℕ) (zs : List Float) (xs ys : List ℕ) (t : Float) (us₀ : List Bool) (walked₀ nodes₀ ends₀ : List ℕ)
-    (us : List Bool) (walked nodes ends : List ℕ) (y : Tally) (k : ℕ) : Type 0 where
+pub record Looping (n : ℕ) (zs : List Float) (xs ys : List ℕ) (rule : Rule) (us₀ : List Bool) (walked₀ nodes₀ ends₀ : List ℕ)
+    (us : List Bool) (walked nodes ends : List ℕ) (tally : Tally) (k : ℕ) : Type 0 where
   pub within : k ≤ length xs
   pub marks : length us ≡ length us₀
   pub walked-length : length walked ≡ length walked₀
   pub nodes-length : length nodes ≡ length nodes₀
   pub ends-length′ : length ends ≡ length ends₀
   pub so-far :
-      Stitching (rows 2 n zs) t (length xs) (walks (rows 2 n zs) (edgesOf xs ys)) (leftAt (rows 2 n zs) (edgesOf xs ys) k us) us y nodes₀
+      Stitching (rows 2 n zs) rule (length xs) (walks (rows 2 n zs) (edgesOf xs ys)) (leftAt (rows 2 n zs) (edgesOf xs ys) k us) us tally nodes₀
       nodes ends₀ ends
 
-pub looping-start : (n : ℕ) (zs : List Float) (xs ys : List ℕ) (t : Float) (us : List Bool) (walked nodes ends : List ℕ)
+pub looping-start : (n : ℕ) (zs : List Float) (xs ys : List ℕ) (rule : Rule) (us : List Bool) (walked nodes ends : List ℕ)
     → length xs ≡ length ys → us ≡ replicate (length xs) false
-    → Looping n zs xs ys t us walked nodes ends us walked nodes ends (record { nodes = 0; loops = 0; flat = 0; opened = 0 }) 0
-looping-start n zs xs ys t us walked nodes ends s e =
+    → Looping n zs xs ys rule us walked nodes ends us walked nodes ends (record { loops = 0; counts = unwalked (length xs) }) 0
+looping-start n zs xs ys rule us walked nodes ends s e =
     let m = edges-length xs ys s in
     record {
       within = omega arith;
@@ -301,12 +242,12 @@ looping-start n zs xs ys t us walked nodes ends s e =
       walked-length = refl;
       nodes-length = refl;
       ends-length′ = refl;
-      so-far = stitching-start (rows 2 n zs) (edgesOf xs ys) t (length xs) us nodes ends (rw m e);
+      so-far = stitching-start (rows 2 n zs) (edgesOf xs ys) rule (length xs) us nodes ends (rw m e);
     }
 
-module _ (n : ℕ) (zs : List Float) (xs ys : List ℕ) (t : Float) (us₀ : List Bool) (walked₀ nodes₀ ends₀ : List ℕ)
-    (us : List Bool) (walked nodes ends : List ℕ) (y : Tally) (k : ℕ)
-    (g : Looping n zs xs ys t us₀ walked₀ nodes₀ ends₀ us walked nodes ends y k)
+module _ (n : ℕ) (zs : List Float) (xs ys : List ℕ) (rule : Rule) (us₀ : List Bool) (walked₀ nodes₀ ends₀ : List ℕ)
+    (us : List Bool) (walked nodes ends : List ℕ) (tally : Tally) (k : ℕ)
+    (g : Looping n zs xs ys rule us₀ walked₀ nodes₀ ends₀ us walked nodes ends tally k)
     (ready₀ : Ready n zs xs ys us₀) (spare₀ : Spare (edgesOf xs ys) walked₀ nodes₀ ends₀) where
   pub looping-ready : Ready n zs xs ys us
   looping-ready = record { ends = ready₀ .ends; marks = g .marks ∙ ready₀ .marks }
@@ -327,8 +268,8 @@ module _ (n : ℕ) (zs : List Float) (xs ys : List ℕ) (t : Float) (us₀ : Lis
 
   pub looping-step : k < length xs → (us′ : List Bool) (walked′ nodes′ ends′ : List ℕ) (r : Tally)
       → length us′ ≡ length us → length walked′ ≡ length walked → length nodes′ ≡ length nodes → length ends′ ≡ length ends
-      → Turn (rows 2 n zs) (edgesOf xs ys) t k (getD us k true) us y nodes ends us′ r nodes′ ends′
-      → Looping n zs xs ys t us₀ walked₀ nodes₀ ends₀ us′ walked′ nodes′ ends′ r (k + 1)
+      → Turn (rows 2 n zs) (edgesOf xs ys) rule k (getD us k true) us tally nodes ends us′ r nodes′ ends′
+      → Looping n zs xs ys rule us₀ walked₀ nodes₀ ends₀ us′ walked′ nodes′ ends′ r (k + 1)
   looping-step h us′ walked′ nodes′ ends′ r lu lw ln le u =
       let m = edges-length xs ys (ready₀ .ends .same) in
       record {
@@ -338,16 +279,16 @@ module _ (n : ℕ) (zs : List Float) (xs ys : List ℕ) (t : Float) (us₀ : Lis
         nodes-length = ln ∙ g .nodes-length;
         ends-length′ = le ∙ g .ends-length′;
         so-far =
-            stitching-step (rows 2 n zs) (edgesOf xs ys) t (length xs) (walks (rows 2 n zs) (edgesOf xs ys)) k us y nodes₀ nodes ends₀ ends
+            stitching-step (rows 2 n zs) (edgesOf xs ys) rule (length xs) (walks (rows 2 n zs) (edgesOf xs ys)) k us tally nodes₀ nodes ends₀ ends
             (g .so-far) (omega arith) us′ r nodes′ ends′ (getD us k true) refl
             (λ f c.
-            let o = loop-room n zs xs ys us k y walked nodes ends looping-ready looping-spare (g .so-far .counting) h f c in
+            let o = loop-fits n zs xs ys us k tally walked nodes ends looping-ready looping-spare (g .so-far .counting) h f c in
             record { for-end = (let q = g .ends-length′ in omega (arith, o .for-end)); same = o .same; three = o .three })
             u;
       }
 
-  pub looping-end : length xs ≤ k → Wrote (rows 2 n zs) t (length xs) (walks (rows 2 n zs) (edgesOf xs ys)) y nodes₀ nodes ends₀ ends
+  pub looping-end : length xs ≤ k → Wrote (rows 2 n zs) rule (length xs) (walks (rows 2 n zs) (edgesOf xs ys)) tally nodes₀ nodes ends₀ ends
   looping-end h =
       let m = edges-length xs ys (ready₀ .ends .same) in
-      stitching-end (rows 2 n zs) (edgesOf xs ys) t (length xs) (walks (rows 2 n zs) (edgesOf xs ys)) k us y nodes₀ nodes ends₀ ends
-      (g .so-far) (omega arith) (counts-listed (rows 2 n zs) t (length xs) (walks (rows 2 n zs) (edgesOf xs ys)))
+      stitching-end (rows 2 n zs) (edgesOf xs ys) rule (length xs) (walks (rows 2 n zs) (edgesOf xs ys)) k us tally nodes₀ nodes ends₀ ends
+      (g .so-far) (omega arith)

@@ -6,9 +6,8 @@ use Prim.Native.Nat.{ℕ, zero, suc, _+_, _≤_, _<_}
 use native.Mathlib.Nat.{not-suc-le-zero}
 use native.Mathlib.Omega.{arith}
 use lib.Dec.{eqb}
-use lib.Ieee.{Float, lt}
+use lib.Ieee.{Float}
 use lib.ListN.{length, getD, set, take, length-take}
-use Rattle.vector.specs.Number.{abs}
 use Rattle.vector.specs.Vector.{Vector}
 use Rattle.vector.specs.Rows.{rows}
 use Rattle.weld.specs.Weld.{Edge, edge, lo, hi, Within}
@@ -16,9 +15,10 @@ use Rattle.weld.specs.Code.{edgesOf}
 use Rattle.weld.proofs.Lists.{edges-length, edges-getD}
 use Rattle.stitch.specs.declared.Next.{Next}
 use Rattle.stitch.specs.declared.Next.the-variants as next
+use Rattle.stitch.specs.declared.Rule.{Rule}
 use Rattle.stitch.specs.declared.Tally.{Tally}
 use Rattle.stitch.specs.Walk.{edgeAt, other, nextEdge, Walk, rest, walkFrom}
-use Rattle.stitch.specs.Stitch.{signedArea, kindOf, kind, turned}
+use Rattle.stitch.specs.Stitch.{inWalks, kindBy, turned}
 use Rattle.stitch.specs.Code.{Ends, Ready, Went, Below, edgesIn, Finished, Finishing, Spare, Counting, Turn}
 use Rattle.stitch.proofs.Junction.{next-free}
 use Rattle.stitch.proofs.Once.{walk-left}
@@ -68,8 +68,14 @@ ends-within n zs xs ys e k h =
     let m = edges-length xs ys (e .same) in
     rw (edges-getD xs ys k (e .same)) (e .within k (omega arith))
 
-module _ (n : ℕ) (zs : List Float) (xs ys : List ℕ) (us : List Bool) (k : ℕ) (t : Tally) (walked nodes ends : List ℕ)
-    (ready : Ready n zs xs ys us) (spare : Spare (edgesOf xs ys) walked nodes ends) (counting : Counting t us)
+-- what a loop asks: room for its end, as many nodes as edges, and three at least
+pub record Fit (w : Walk) (tally : Tally) (ends : List ℕ) : Type 0 where
+  pub for-end : tally .loops < length ends
+  pub same : length (w .nodes) ≡ length (w .edges)
+  pub three : 3 ≤ length (w .edges)
+
+module _ (n : ℕ) (zs : List Float) (xs ys : List ℕ) (us : List Bool) (k : ℕ) (tally : Tally) (walked nodes ends : List ℕ)
+    (ready : Ready n zs xs ys us) (spare : Spare (edgesOf xs ys) walked nodes ends) (counting : Counting tally us)
     (inside : k < length xs) (free : getD us k true ≡ false) where
   abbrev w : Walk
   w = walkFrom (rows 2 n zs) (edgesOf xs ys) k us
@@ -84,7 +90,7 @@ module _ (n : ℕ) (zs : List Float) (xs ys : List ℕ) (us : List Bool) (k : �
   sound = walk-sound (rows 2 n zs) (edgesOf xs ys) (spare .simple) k us free (let m = count in omega arith) marks
 
   -- its edges were unused
-  left : t .nodes + t .flat + t .opened + length (w .edges) ≤ length us
+  left : inWalks (tally .counts) + length (w .edges) ≤ length us
   left = let a = walk-left (rows 2 n zs) (edgesOf xs ys) k us free in let b = counting .left in omega arith
 
   few-nodes : length (w .nodes) ≤ suc (length (w .edges))
@@ -98,7 +104,7 @@ module _ (n : ℕ) (zs : List Float) (xs ys : List ℕ) (us : List Bool) (k : �
   closed-nodes c = ap (λ (b : Bool). edgesIn b (length (w .nodes))) (sym c) ∙ walk-edges (edgesOf xs ys) w sound
 
   -- three edges more for one loop more
-  room-for-end : w .closed ≡ true → t .loops < length ends
+  room-for-end : w .closed ≡ true → tally .loops < length ends
   room-for-end c =
       let three = sound-three (edgesOf xs ys) (spare .simple) (spare .distinct) w sound c in
       let e = closed-nodes c in
@@ -106,23 +112,13 @@ module _ (n : ℕ) (zs : List Float) (xs ys : List ℕ) (us : List Bool) (k : �
       let m = marks in
       omega (arith, counting .three, spare .ends-room)
 
-  -- where the walk is a loop there is room for its nodes and its end, and it has three edges at least
-  pub record Roomy : Type 0 where
-    pub for-nodes : t .nodes + length (w .edges) ≤ length nodes
-    pub for-end : t .loops < length ends
-    pub three : 3 ≤ length (w .edges)
-    pub same : length (w .nodes) ≡ length (w .edges)
-
-  pub loop-room : w .closed ≡ true → Roomy
-  loop-room c =
+  pub loop-fits : w .closed ≡ true → Fit w tally ends
+  loop-fits c =
       let e = closed-nodes c in
-      let l = left in
-      let m = marks in
       record {
-        for-nodes = omega (arith, spare .nodes-room);
         for-end = room-for-end c;
-        three = omega (arith, sound-three (edgesOf xs ys) (spare .simple) (spare .distinct) w sound c);
         same = e;
+        three = omega (arith, sound-three (edgesOf xs ys) (spare .simple) (spare .distinct) w sound c);
       }
 
   module _ (nodes-walked edges-walked : ℕ) (closed : Bool) (us′ : List Bool) (buffer : List ℕ)
@@ -133,7 +129,7 @@ module _ (n : ℕ) (zs : List Float) (xs ys : List ℕ) (us : List Bool) (k : �
     pub walked-count : nodes-walked ≡ length (take nodes-walked buffer)
     walked-count = went .node-count ∙ sym (ap length (went .nodes-are))
 
-    pub finishing : Finishing n zs (take nodes-walked buffer) closed t nodes ends
+    pub finishing : Finishing n zs (take nodes-walked buffer) closed tally nodes ends
     finishing =
         let l = left in
         let f = few-nodes in
@@ -148,16 +144,14 @@ module _ (n : ℕ) (zs : List Float) (xs ys : List ℕ) (us : List Bool) (k : �
           ends-room = room-for-end;
         })
 
-    pub turn-free : (tol2 : Float) (r : Tally) (nodes′ ends′ : List ℕ)
-        → Finished (kindOf closed (lt tol2 (abs (signedArea (rows 2 n zs) (take nodes-walked buffer)))))
-        (turned (rows 2 n zs) (take nodes-walked buffer))
-        (edgesIn closed (length (take nodes-walked buffer))) t nodes ends r nodes′ ends′
-        → Turn (rows 2 n zs) (edgesOf xs ys) tol2 k (getD us k true) us t nodes ends us′ r nodes′ ends′
-    unfolding kind
-    turn-free tol2 r nodes′ ends′ f =
+    pub turn-free : (rule : Rule) (r : Tally) (nodes′ ends′ : List ℕ)
+        → Finished (kindBy (rows 2 n zs) rule closed (take nodes-walked buffer)) (turned (rows 2 n zs) (take nodes-walked buffer))
+        (edgesIn closed (length (take nodes-walked buffer))) tally nodes ends r nodes′ ends′
+        → Turn (rows 2 n zs) (edgesOf xs ys) rule k (getD us k true) us tally nodes ends us′ r nodes′ ends′
+    turn-free rule r nodes′ ends′ f =
         let e = walk-edges (edgesOf xs ys) w sound in
         rw free (went .used-are, rw (← e) (rw (went .nodes-are, went .closed-is) at f))
 
-pub turn-used : (ps : List Vector) (es : List Edge) (tol2 : Float) (k : ℕ) (us : List Bool) (t : Tally) (nodes ends : List ℕ)
-    → getD us k true ≡ true → Turn ps es tol2 k (getD us k true) us t nodes ends us t nodes ends
-turn-used ps es tol2 k us t nodes ends e = rw e (refl, refl, refl, refl)
+pub turn-used : (ps : List Vector) (es : List Edge) (rule : Rule) (k : ℕ) (us : List Bool) (tally : Tally) (nodes ends : List ℕ)
+    → getD us k true ≡ true → Turn ps es rule k (getD us k true) us tally nodes ends us tally nodes ends
+turn-used ps es rule k us tally nodes ends e = rw e (refl, refl, refl, refl)

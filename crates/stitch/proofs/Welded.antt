@@ -13,6 +13,7 @@ use Rattle.weld.specs.Weld.{weldedPoints, listedEdges}
 use Rattle.weld.specs.Code.{edgesOf, Welds}
 use Rattle.weld.proofs.Edges.{listed-simple, listed-distinct}
 use Rattle.weld.proofs.Welding.{edges-exact, points-counted, edges-counted}
+use Rattle.stitch.specs.declared.Rule.{Rule}
 use Rattle.stitch.specs.declared.Tally.{Tally}
 use Rattle.stitch.specs.declared.Stitched.{Stitched}
 use Rattle.stitch.specs.Walk.{walks}
@@ -65,10 +66,10 @@ read-back a r numbers numbers′ nodes nodes′ ends ends′ g =
     rw (g .points-are, l, ← g .counts-are)
 
 -- so the claim about the answer is one about what the buffers hold
-claimed : (t : Float) (ss : List Seg) (r : Stitched) (numbers numbers′ : List Float) (nodes nodes′ ends ends′ : List ℕ)
-    → Gave (stitchedWithin t ss) r numbers numbers′ nodes nodes′ ends ends′ → Claim t ss (answerIn r numbers′ nodes′ ends′)
-claimed t ss r numbers numbers′ nodes nodes′ ends ends′ g =
-    subst (λ (a : Answer). Claim t ss a) (sym (read-back (stitchedWithin t ss) r numbers numbers′ nodes nodes′ ends ends′ g)) (claim t ss)
+claimed : (rule : Rule) (ss : List Seg) (r : Stitched) (numbers numbers′ : List Float) (nodes nodes′ ends ends′ : List ℕ)
+    → Gave (stitchedWithin rule ss) r numbers numbers′ nodes nodes′ ends ends′ → Claim rule ss (answerIn r numbers′ nodes′ ends′)
+claimed rule ss r numbers numbers′ nodes nodes′ ends ends′ g =
+    subst (λ (a : Answer). Claim rule ss a) (sym (read-back (stitchedWithin rule ss) r numbers numbers′ nodes nodes′ ends ends′ g)) (claim rule ss)
 
 -- What the walks need of welding: the parts of the tables that are lent to them are as long as there are edges, and no mark is set.
 pub record Walkable (n m : ℕ) (zs : List Float) (xs ys : List ℕ) (us : List Bool) (walked nodes ends : List ℕ) : Type 0 where
@@ -79,8 +80,8 @@ pub record Walkable (n m : ℕ) (zs : List Float) (xs ys : List ℕ) (us : List 
   pub spare : Spare (edgesOf (take m xs) (take m ys)) walked nodes ends
   pub fresh : take m us ≡ replicate (length (take m xs)) false
 
-module _ (t : Float) (ss : List Float) (s : ℕ) (zs₀ : List Float) (n m : ℕ) (zs : List Float) (xs ys nodes ends : List ℕ)
-    (w : Welds t ss s zs₀ n m zs xs ys) (lent : Lent s ss zs₀ nodes ends) (kept : length zs ≡ length zs₀)
+module _ (rule : Rule) (ss : List Float) (s : ℕ) (zs₀ : List Float) (n m : ℕ) (zs : List Float) (xs ys nodes ends : List ℕ)
+    (w : Welds (rule .tol2) ss s zs₀ n m zs xs ys) (lent : Lent s ss zs₀ nodes ends) (kept : length zs ≡ length zs₀)
     (same : length xs ≡ length ys) (room : s ≤ length xs) where
   few : m ≤ 384
   few = omega (arith, w .few-edges, lent .few)
@@ -108,10 +109,10 @@ module _ (t : Float) (ss : List Float) (s : ℕ) (zs₀ : List Float) (n m : ℕ
         marks = sym marks ∙ a;
       }
 
-  exact : edgesOf (take m xs) (take m ys) ≡ listedEdges t (segs 2 s ss)
+  exact : edgesOf (take m xs) (take m ys) ≡ listedEdges (rule .tol2) (segs 2 s ss)
   exact = edges-exact w
 
-  edge-count : length (listedEdges t (segs 2 s ss)) ≡ m
+  edge-count : length (listedEdges (rule .tol2) (segs 2 s ss)) ≡ m
   edge-count = edges-counted w same room
 
   welded-spare : (walked : List ℕ) → s < length walked → Spare (edgesOf (take m xs) (take m ys)) walked nodes ends
@@ -120,8 +121,8 @@ module _ (t : Float) (ss : List Float) (s : ℕ) (zs₀ : List Float) (n m : ℕ
       let d = w .few-edges in
       rw exact
       (record {
-        simple = listed-simple t (segs 2 s ss);
-        distinct = listed-distinct t (segs 2 s ss);
+        simple = listed-simple (rule .tol2) (segs 2 s ss);
+        distinct = listed-distinct (rule .tol2) (segs 2 s ss);
         few = omega (arith, lent .few);
         walked-room = omega (arith, lent .few);
         nodes-room = omega (arith, lent .for-nodes);
@@ -141,22 +142,22 @@ module _ (t : Float) (ss : List Float) (s : ℕ) (zs₀ : List Float) (n m : ℕ
         fresh = fresh-part 384 m few ∙ ap (λ (k : ℕ). replicate k false) first;
       })
 
-  numbers : zs ≡ over (flatten (weldedPoints t (segs 2 s ss))) zs₀
+  numbers : zs ≡ over (flatten (weldedPoints (rule .tol2) (segs 2 s ss))) zs₀
   numbers =
       let room : 2 * n ≤ length zs = omega (arith, w .few-points, lent .for-points) in
-      let first : flatten (weldedPoints t (segs 2 s ss)) ≡ take (2 * n) zs = ap flatten (sym (w .points)) ∙ flatten-rows n zs room in
+      let first : flatten (weldedPoints (rule .tol2) (segs 2 s ss)) ≡ take (2 * n) zs = ap flatten (sym (w .points)) ∙ flatten-rows n zs room in
       let l : length (take (2 * n) zs) ≡ 2 * n = length-take-le (2 * n) zs room in
       rw (first, l, ← w .rest) (sym (take-append-drop (2 * n) zs))
 
-  gave-answer : (y : Tally) (nodes′ ends′ : List ℕ)
-      → Wrote (rows 2 n zs) t (length (take m xs)) (walks (rows 2 n zs) (edgesOf (take m xs) (take m ys))) y nodes nodes′ ends ends′
-      → Gave (stitchedWithin t (segs 2 s ss))
-      (record { points = n; nodes = y .nodes; loops = y .loops; listed = m; «in_loops» = y .nodes; flat = y .flat; opened = y .opened })
+  gave-answer : (tally : Tally) (nodes′ ends′ : List ℕ)
+      → Wrote (rows 2 n zs) rule (length (take m xs)) (walks (rows 2 n zs) (edgesOf (take m xs) (take m ys))) tally nodes nodes′ ends ends′
+      → Gave (stitchedWithin rule (segs 2 s ss))
+      (record { points = n; nodes = tally .counts .«in_loops»; loops = tally .loops; counts = tally .counts })
       zs₀ zs nodes nodes′ ends ends′
   unfolding stitchedWithin
-  gave-answer y nodes′ ends′ o =
-      let ps = weldedPoints t (segs 2 s ss) in
-      let es = listedEdges t (segs 2 s ss) in
+  gave-answer tally nodes′ ends′ o =
+      let ps = weldedPoints (rule .tol2) (segs 2 s ss) in
+      let es = listedEdges (rule .tol2) (segs 2 s ss) in
       let a = first in
       let p = rw (w .points, exact, ← a) at o in
       record {
@@ -167,14 +168,14 @@ module _ (t : Float) (ss : List Float) (s : ℕ) (zs₀ : List Float) (n m : ℕ
         point-count = sym (points-counted w);
         node-count = p .node-count;
         loop-count = p .loop-count;
-        counts-are = ap (λ (k : ℕ). countsOf ps t k (walks ps es)) edge-count ∙ p .counts-are;
+        counts-are = ap (λ (k : ℕ). countsOf ps rule k (walks ps es)) edge-count ∙ p .counts-are;
       }
 
-  pub gave : (y : Tally) (nodes′ ends′ : List ℕ)
-      → Wrote (rows 2 n zs) t (length (take m xs)) (walks (rows 2 n zs) (edgesOf (take m xs) (take m ys))) y nodes nodes′ ends ends′
-      → Stitches t (segs 2 s ss)
-      (record { points = n; nodes = y .nodes; loops = y .loops; listed = m; «in_loops» = y .nodes; flat = y .flat; opened = y .opened })
+  pub gave : (tally : Tally) (nodes′ ends′ : List ℕ)
+      → Wrote (rows 2 n zs) rule (length (take m xs)) (walks (rows 2 n zs) (edgesOf (take m xs) (take m ys))) tally nodes nodes′ ends ends′
+      → Stitches rule (segs 2 s ss)
+      (record { points = n; nodes = tally .counts .«in_loops»; loops = tally .loops; counts = tally .counts })
       zs₀ zs nodes nodes′ ends ends′
-  gave y nodes′ ends′ o =
-      let g = gave-answer y nodes′ ends′ o in
-      record { gave = g; claim = claimed t (segs 2 s ss) _ zs₀ zs nodes nodes′ ends ends′ g }
+  gave tally nodes′ ends′ o =
+      let g = gave-answer tally nodes′ ends′ o in
+      record { gave = g; claim = claimed rule (segs 2 s ss) _ zs₀ zs nodes nodes′ ends ends′ g }

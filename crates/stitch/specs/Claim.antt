@@ -7,11 +7,11 @@ use mathlib.Core.Logic.{_↔_}
 use Prim.Native.Nat.{ℕ, _+_, _*_, _%_, _≤_, _<_}
 use lib.Dec.{eqb}
 use lib.ListN.{length, getD}
-use lib.Ieee.{Float}
 use Rattle.vector.specs.Rows.{Seg}
 use Rattle.weld.specs.Weld.{Edge, edge, same, between, listed, becomes, weldedPoints, listedEdges}
+use Rattle.stitch.specs.declared.Rule.{Rule}
 use Rattle.stitch.specs.Walk.{edgeAt, touches, Walk, walks}
-use Rattle.stitch.specs.Stitch.{loops, countsOf, Answer}
+use Rattle.stitch.specs.Stitch.{loops, inWalks, countsOf, Answer}
 
 -- ---- words of the claim
 
@@ -86,12 +86,12 @@ degree v (e ∷ es) = bit (touches v e) + degree v es
 
 -- ---- the claim
 
--- Of the segments ss, the squared tolerance t, the listed edges es, the walks ws and an answer a.
-pub record ClaimOf (t : Float) (ss : List Seg) (es : List Edge) (ws : List Walk) (a : Answer) : Type 0 where
+-- Of the segments ss, the rule, the listed edges es, the walks ws and an answer a.
+pub record ClaimOf (rule : Rule) (ss : List Seg) (es : List Edge) (ws : List Walk) (a : Answer) : Type 0 where
   -- the points are the welded ones
-  pub points-are : a .points ≡ weldedPoints t ss
+  pub points-are : a .points ≡ weldedPoints (rule .tol2) ss
   -- two different points form a listed edge exactly when the two ends of some segment become them
-  pub listed-when : (p q : ℕ) → (p ≡ q → ⊥) → listed (between p q) es ≡ someBecome p q (becomes t ss [])
+  pub listed-when : (p q : ℕ) → (p ≡ q → ⊥) → listed (between p q) es ≡ someBecome p q (becomes (rule .tol2) ss [])
   -- each listed edge is in exactly one walk, and there once
   pub once : (k : ℕ) → k < length es → times k (edgesWalked ws) ≡ 1
   -- no walk has another edge
@@ -101,17 +101,17 @@ pub record ClaimOf (t : Float) (ss : List Seg) (es : List Edge) (ws : List Walk)
   -- every closed walk has at least three nodes
   pub three : All (λ w. w .closed ≡ true → 3 ≤ length (w .nodes)) ws
   -- the loops returned are exactly the walks that are loops, in the order walked
-  pub exactly : a .loops ≡ loops (a .points) t ws
+  pub exactly : a .loops ≡ loops (a .points) rule ws
   -- each has at least three nodes
   pub loops-three : All (λ l. 3 ≤ length l) (a .loops)
   -- a listed edge joins any two cyclic neighbours in it
   pub neighbours : All (λ l. All (λ e. listed e es ≡ true) (sides l)) (a .loops)
   -- no listed edge is used a second time in any loop returned, counted over all loops together
   pub unrepeated : (e : Edge) → timesEdge e (sidesOf (a .loops)) ≤ 1
-  -- the four counts are those of the listed edges and of the edges in loops, flat walks and open walks
-  pub counts-are : a .counts ≡ countsOf (a .points) t (length es) ws
+  -- the counts are those of the listed edges and of the edges in loops, flat walks and open walks
+  pub counts-are : a .counts ≡ countsOf (a .points) rule (length es) ws
   -- listed = in loops + flat + open
-  pub adds-up : a .counts .listed ≡ a .counts .inLoops + a .counts .flat + a .counts .opened
+  pub adds-up : a .counts .listed ≡ inWalks (a .counts)
   -- there is no open walk exactly when every welded point ends an even number of listed edges
   pub even : All (λ w. w .closed ≡ true) ws ↔ ((v : ℕ) → v < length (a .points) → degree v es % 2 ≡ 0)
   -- the sizes that follow: at most 2s points, s nodes and s / 3 loops from s segments
@@ -120,5 +120,8 @@ pub record ClaimOf (t : Float) (ss : List Seg) (es : List Edge) (ws : List Walk)
   pub few-loops : 3 * length (a .loops) ≤ length ss
 
 -- the listed edges are those of welding, and the walks those of the points and the edges
-abbrev pub Claim : Float → List Seg → Answer → Type 0
-Claim t ss a = ClaimOf t ss (listedEdges t ss) (walks (weldedPoints t ss) (listedEdges t ss)) a
+abbrev pub Claim : Rule → List Seg → Answer → Type 0
+Claim rule ss a =
+    let ps = weldedPoints (rule .tol2) ss in
+    let es = listedEdges (rule .tol2) ss in
+    ClaimOf rule ss es (walks ps es) a

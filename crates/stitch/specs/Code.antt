@@ -14,9 +14,11 @@ use Rattle.weld.specs.Weld.{Edge, Simple, Distinct}
 use Rattle.stitch.specs.declared.Arrival.{Arrival}
 use Rattle.stitch.specs.declared.Best.{Best}
 use Rattle.stitch.specs.Walk.{pointAt, edgeAt, touches, other, available, cosineTo, Walk, walkFrom}
+use Rattle.stitch.specs.declared.Kind.{Kind}
+use Rattle.stitch.specs.declared.Rule.{Rule}
 use Rattle.stitch.specs.declared.Tally.{Tally}
 use Rattle.stitch.specs.declared.Stitched.{Stitched}
-use Rattle.stitch.specs.Stitch.{Kind, Loop, Flat, Open, kind, turned, loops, countsOf, Answer, stitchedWithin}
+use Rattle.stitch.specs.Stitch.{kind, isLoop, turned, loops, inWalks, counted, countsOf, Answer, stitchedWithin}
 use Rattle.stitch.specs.Claim.{Claim}
 
 -- how many marks are not set
@@ -89,39 +91,26 @@ abbrev pub edgesIn : Bool → ℕ → ℕ
 edgesIn true m = m
 edgesIn false m = m - 1
 
--- the tally with m edges more, in a walk of this kind; the nodes of a loop are as many as its edges
+-- the tally with a walk more, of this kind and with m edges
 abbrev pub tallied : Kind → ℕ → Tally → Tally
-tallied Loop m t = record { nodes = t .nodes + m; loops = t .loops + 1; flat = t .flat; opened = t .opened }
-tallied Flat m t = record { nodes = t .nodes; loops = t .loops; flat = t .flat + m; opened = t .opened }
-tallied Open m t = record { nodes = t .nodes; loops = t .loops; flat = t .flat; opened = t .opened + m }
-
--- the nodes l of a loop are written at `at`
-abbrev pub nodesAfter : Kind → List ℕ → ℕ → List ℕ → List ℕ
-nodesAfter Loop l at out = paste out at l (length l)
-nodesAfter Flat l at out = out
-nodesAfter Open l at out = out
-
--- the end e of a loop is written as number k
-abbrev pub endsAfter : Kind → ℕ → ℕ → List ℕ → List ℕ
-endsAfter Loop k e out = set out k e
-endsAfter Flat k e out = out
-endsAfter Open k e out = out
+tallied κ m tally = record { loops = cond (isLoop κ) (tally .loops + 1) (tally .loops); counts = counted κ m (tally .counts) }
 
 -- a walk of this kind with the nodes l, as they are returned, and m edges has been ended
-pub record Finished (κ : Kind) (l : List ℕ) (m : ℕ) (t : Tally) (nodes ends : List ℕ) (r : Tally) (nodes′ ends′ : List ℕ) : Type 0 where
-  pub tally-is : r ≡ tallied κ m t
-  pub nodes-are : nodes′ ≡ nodesAfter κ l (t .nodes) nodes
-  pub ends-are : ends′ ≡ endsAfter κ (t .loops) (t .nodes + m) ends
+pub record Finished (κ : Kind) (l : List ℕ) (m : ℕ) (tally : Tally) (nodes ends : List ℕ) (r : Tally) (nodes′ ends′ : List ℕ) : Type 0 where
+  pub tally-is : r ≡ tallied κ m tally
+  -- a loop's nodes stand after those of the loops before it, and its end after theirs
+  pub nodes-are : nodes′ ≡ cond (isLoop κ) (paste nodes (tally .counts .«in_loops») l (length l)) nodes
+  pub ends-are : ends′ ≡ cond (isLoop κ) (set ends (tally .loops) (tally .counts .«in_loops» + m)) ends
 
 -- what ending a walk needs: its nodes are points, and there is room for it
-pub record Finishing (n : ℕ) (points : List Float) (walked : List ℕ) (closed : Bool) (t : Tally) (nodes ends : List ℕ) : Type 0 where
+pub record Finishing (n : ℕ) (points : List Float) (walked : List ℕ) (closed : Bool) (tally : Tally) (nodes ends : List ℕ) : Type 0 where
   pub room : 2 * n ≤ length points
   pub some : 0 < length walked
   pub below : Below n walked
   -- so that no sum of counts wraps
-  pub small : t .nodes + t .flat + t .opened + length walked < 65536
-  pub nodes-room : closed ≡ true → t .nodes + length walked ≤ length nodes
-  pub ends-room : closed ≡ true → t .loops < length ends
+  pub small : inWalks (tally .counts) + length walked < 65536
+  pub nodes-room : closed ≡ true → tally .counts .«in_loops» + length walked ≤ length nodes
+  pub ends-room : closed ≡ true → tally .loops < length ends
 
 -- ---- all walks
 
@@ -136,25 +125,25 @@ pub record Spare (es : List Edge) (walked nodes ends : List ℕ) : Type 0 where
   pub ends-room : length es / 3 ≤ length ends
 
 -- the tally has counted used edges only, and three at least for a loop
-pub record Counting (t : Tally) (used : List Bool) : Type 0 where
-  pub left : t .nodes + t .flat + t .opened + unused used ≤ length used
-  pub three : 3 * t .loops ≤ t .nodes
+pub record Counting (tally : Tally) (used : List Bool) : Type 0 where
+  pub left : inWalks (tally .counts) + unused used ≤ length used
+  pub three : 3 * tally .loops ≤ tally .counts .«in_loops»
 
 -- the turn at edge k: nothing where it is used, and else the walk from it
-abbrev pub Turn : List Vector → List Edge → Float → ℕ → Bool → List Bool → Tally → List ℕ → List ℕ → List Bool → Tally → List ℕ → List ℕ
+abbrev pub Turn : List Vector → List Edge → Rule → ℕ → Bool → List Bool → Tally → List ℕ → List ℕ → List Bool → Tally → List ℕ → List ℕ
     → Type 0
-Turn ps es t k true us y ns xs us′ r ns′ xs′ = (us′ ≡ us) × (r ≡ y) × (ns′ ≡ ns) × (xs′ ≡ xs)
-Turn ps es t k false us y ns xs us′ r ns′ xs′ =
+Turn ps es rule k true us tally ns xs us′ r ns′ xs′ = (us′ ≡ us) × (r ≡ tally) × (ns′ ≡ ns) × (xs′ ≡ xs)
+Turn ps es rule k false us tally ns xs us′ r ns′ xs′ =
     let w = walkFrom ps es k us in
-    (us′ ≡ w .used) × Finished (kind ps t w) (turned ps (w .nodes)) (length (w .edges)) y ns xs r ns′ xs′
+    (us′ ≡ w .used) × Finished (kind ps rule w) (turned ps (w .nodes)) (length (w .edges)) tally ns xs r ns′ xs′
 
 -- all walks ws have been walked: the nodes of their loops are in one buffer, their ends in another, and m edges are counted
-pub record Wrote (ps : List Vector) (t : Float) (m : ℕ) (ws : List Walk) (r : Tally) (nodes nodes′ ends ends′ : List ℕ) : Type 0 where
-  pub nodes-are : nodes′ ≡ over (flatten (loops ps t ws)) nodes
-  pub ends-are : ends′ ≡ over (endsFrom 0 (loops ps t ws)) ends
-  pub node-count : r .nodes ≡ length (flatten (loops ps t ws))
-  pub loop-count : r .loops ≡ length (loops ps t ws)
-  pub counts-are : countsOf ps t m ws ≡ record { listed = m; inLoops = r .nodes; flat = r .flat; opened = r .opened }
+pub record Wrote (ps : List Vector) (rule : Rule) (m : ℕ) (ws : List Walk) (r : Tally) (nodes nodes′ ends ends′ : List ℕ) : Type 0 where
+  pub nodes-are : nodes′ ≡ over (flatten (loops ps rule ws)) nodes
+  pub ends-are : ends′ ≡ over (endsFrom 0 (loops ps rule ws)) ends
+  pub node-count : r .counts .«in_loops» ≡ length (flatten (loops ps rule ws))
+  pub loop-count : r .loops ≡ length (loops ps rule ws)
+  pub counts-are : countsOf ps rule m ws ≡ r .counts
 
 -- ---- the answer
 
@@ -186,7 +175,7 @@ pub record Gave (a : Answer) (r : Stitched) (numbers numbers′ : List Float) (n
   pub point-count : r .points ≡ length (a .points)
   pub node-count : r .nodes ≡ length (flatten (a .loops))
   pub loop-count : r .loops ≡ length (a .loops)
-  pub counts-are : a .counts ≡ record { listed = r .listed; inLoops = r .«in_loops»; flat = r .flat; opened = r .opened }
+  pub counts-are : a .counts ≡ r .counts
 
 -- the loops, cut out of their nodes by their ends; the first begins at n
 unfoldable pub cut : ℕ → List ℕ → List ℕ → List (List ℕ)
@@ -199,11 +188,11 @@ answerIn r numbers nodes ends =
     record {
       points = rows 2 (r .points) numbers;
       loops = cut 0 (take (r .loops) ends) nodes;
-      counts = record { listed = r .listed; inLoops = r .«in_loops»; flat = r .flat; opened = r .opened };
+      counts = r .counts;
     }
 
 -- What stitching does: it gives the answer of the definition, and the claim of document 01 holds of what it gives.
-pub record Stitches (t : Float) (ss : List Seg) (r : Stitched) (numbers numbers′ : List Float) (nodes nodes′ ends ends′ : List ℕ) : Type 0
+pub record Stitches (rule : Rule) (ss : List Seg) (r : Stitched) (numbers numbers′ : List Float) (nodes nodes′ ends ends′ : List ℕ) : Type 0
   where
-    pub gave : Gave (stitchedWithin t ss) r numbers numbers′ nodes nodes′ ends ends′
-    pub claim : Claim t ss (answerIn r numbers′ nodes′ ends′)
+    pub gave : Gave (stitchedWithin rule ss) r numbers numbers′ nodes nodes′ ends ends′
+    pub claim : Claim rule ss (answerIn r numbers′ nodes′ ends′)

@@ -1,4 +1,4 @@
--- Which walks are loops, and the answer of stitching: points, loops and the four counts of document 01. Definitions only.
+-- Which walks are loops, and the answer of stitching: points, loops and the counts of document 01. Definitions only.
 use mathlib.Core.List.{List, [], _∷_, reverse}
 use mathlib.Core.Bool.{Bool, true, false, cond}
 use Prim.Native.Nat.{ℕ, _+_}
@@ -9,6 +9,10 @@ use Rattle.vector.specs.Number.{f0, abs}
 use Rattle.vector.specs.Vector.{Vector, at}
 use Rattle.vector.specs.Rows.{Seg}
 use Rattle.weld.specs.Weld.{Edge, pointsFrom, becomes, edgesFrom, weldedPoints, listedEdges}
+use Rattle.stitch.specs.declared.Counts.{Counts}
+use Rattle.stitch.specs.declared.Kind.{Kind}
+use Rattle.stitch.specs.declared.Kind.the-variants.{Loop, Flat, Open}
+use Rattle.stitch.specs.declared.Rule.{Rule}
 use Rattle.stitch.specs.Walk.{pointAt, Walk, walks, walksFrom}
 
 -- ---- the area of a closed walk
@@ -34,58 +38,63 @@ signedArea ps nodes = div binary64 (area2From ps (getD nodes 0 0) nodes f0) f2
 
 -- ---- loop, flat or open
 
--- what a walk is
-pub data Kind : Type 0 where
-  Loop Flat Open : Kind
-
 -- by whether a walk is closed, and whether its area is above the squared tolerance
 abbrev pub kindOf : Bool → Bool → Kind
 kindOf false large = Open
 kindOf true true = Loop
 kindOf true false = Flat
 
--- t is the squared tolerance; an area that is NaN is above nothing
-unfoldable pub kind : List Vector → Float → Walk → Kind
+-- by the rule; an area that is NaN is above nothing
+unfoldable pub kindBy : List Vector → Rule → Bool → List ℕ → Kind
 unfolding area2From abs lt div
-kind ps t w = kindOf (w .closed) (lt t (abs (signedArea ps (w .nodes))))
+kindBy ps rule closed nodes = kindOf closed (lt (rule .tol2) (abs (signedArea ps nodes)))
+
+-- what a walk is
+abbrev pub kind : List Vector → Rule → Walk → Kind
+kind ps rule w = kindBy ps rule (w .closed) (w .nodes)
+
+-- a loop is returned, no other walk is
+abbrev pub isLoop : Kind → Bool
+isLoop Loop = true
+isLoop Flat = false
+isLoop Open = false
 
 -- the node list, reversed as a whole when the area is negative
 unfoldable pub turned : List Vector → List ℕ → List ℕ
 unfolding area2From lt div
 turned ps nodes = let r = reverse nodes in cond (lt (signedArea ps nodes) f0) r nodes
 
--- the list l in front of r, for a loop only
-abbrev pub ifLoop : Kind → List ℕ → List (List ℕ) → List (List ℕ)
-ifLoop Loop l r = l ∷ r
-ifLoop Flat l r = r
-ifLoop Open l r = r
-
 -- the loops, in the order walked
-unfoldable pub loops : List Vector → Float → List Walk → List (List ℕ)
-unfolding kind turned
-loops ps t [] = []
-loops ps t (w ∷ ws) = ifLoop (kind ps t w) (turned ps (w .nodes)) (loops ps t ws)
+unfoldable pub loops : List Vector → Rule → List Walk → List (List ℕ)
+unfolding kindBy turned
+loops ps rule [] = []
+loops ps rule (w ∷ ws) = let r = loops ps rule ws in cond (isLoop (kind ps rule w)) (turned ps (w .nodes) ∷ r) r
 
--- ---- the four counts
+-- ---- the counts of edges
 
--- the listed edges, and those of walks that are loops, flat and open
-pub record Counts : Type 0 where
-  pub listed : ℕ
-  pub inLoops : ℕ
-  pub flat : ℕ
-  pub opened : ℕ
+-- how many are in walks, of any kind
+abbrev pub inWalks : Counts → ℕ
+inWalks c = c .«in_loops» + c .flat + c .opened
 
 -- counts with n edges more, in a walk of this kind
 abbrev pub counted : Kind → ℕ → Counts → Counts
-counted Loop n c = record { listed = c .listed; inLoops = n + c .inLoops; flat = c .flat; opened = c .opened }
-counted Flat n c = record { listed = c .listed; inLoops = c .inLoops; flat = n + c .flat; opened = c .opened }
-counted Open n c = record { listed = c .listed; inLoops = c .inLoops; flat = c .flat; opened = n + c .opened }
+counted Loop n c = record { listed = c .listed; «in_loops» = c .«in_loops» + n; flat = c .flat; opened = c .opened }
+counted Flat n c = record { listed = c .listed; «in_loops» = c .«in_loops»; flat = c .flat + n; opened = c .opened }
+counted Open n c = record { listed = c .listed; «in_loops» = c .«in_loops»; flat = c .flat; opened = c .opened + n }
 
--- the edges of each kind of walk, added up
-unfoldable pub countsOf : List Vector → Float → ℕ → List Walk → Counts
-unfolding kind
-countsOf ps t n [] = record { listed = n; inLoops = 0; flat = 0; opened = 0 }
-countsOf ps t n (w ∷ ws) = counted (kind ps t w) (length (w .edges)) (countsOf ps t n ws)
+-- the edges of each kind of walk, added to those counted before
+unfoldable pub countsFrom : List Vector → Rule → Counts → List Walk → Counts
+unfolding kindBy
+countsFrom ps rule c [] = c
+countsFrom ps rule c (w ∷ ws) = countsFrom ps rule (counted (kind ps rule w) (length (w .edges)) c) ws
+
+-- n listed edges, none of them walked
+abbrev pub unwalked : ℕ → Counts
+unwalked n = record { listed = n; «in_loops» = 0; flat = 0; opened = 0 }
+
+-- the counts of n listed edges and these walks
+abbrev pub countsOf : List Vector → Rule → ℕ → List Walk → Counts
+countsOf ps rule n ws = countsFrom ps rule (unwalked n) ws
 
 -- ---- the answer
 
@@ -96,17 +105,21 @@ pub record Answer : Type 0 where
   pub counts : Counts
 
 -- the answer that the points ps, the edges es and the walks ws give
-abbrev pub answerOf : Float → List Vector → List Edge → List Walk → Answer
-answerOf t ps es ws = record { points = ps; loops = loops ps t ws; counts = countsOf ps t (length es) ws }
+abbrev pub answerOf : Rule → List Vector → List Edge → List Walk → Answer
+answerOf rule ps es ws = record { points = ps; loops = loops ps rule ws; counts = countsOf ps rule (length es) ws }
 
--- stitching with the squared tolerance t
-unfoldable pub stitchedWithin : Float → List Seg → Answer
-unfolding pointsFrom becomes edgesFrom walksFrom loops countsOf
-stitchedWithin t ss =
-    let ps = weldedPoints t ss in
-    let es = listedEdges t ss in
-    answerOf t ps es (walks ps es)
+-- stitching by a rule; welding knows its squared tolerance alone
+unfoldable pub stitchedWithin : Rule → List Seg → Answer
+unfolding pointsFrom becomes edgesFrom walksFrom loops countsFrom
+stitchedWithin rule ss =
+    let ps = weldedPoints (rule .tol2) ss in
+    let es = listedEdges (rule .tol2) ss in
+    answerOf rule ps es (walks ps es)
+
+-- the rule of a tolerance, which is squared
+abbrev pub ruleOf : Float → Rule
+ruleOf tol = record { tol2 = mul binary64 tol tol }
 
 -- `stitch_segments`
 abbrev pub stitched : Float → List Seg → Answer
-stitched tol ss = stitchedWithin (mul binary64 tol tol) ss
+stitched tol ss = stitchedWithin (ruleOf tol) ss

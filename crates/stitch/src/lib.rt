@@ -4,29 +4,66 @@ ghost use mathlib.Core.Bool.{cond, false, not, true, _&&_, _||_};
 ghost use mathlib.Core.List.{reverse};
 ghost use Prim.Native.Nat.{_*_, _+_, _<_, _≤_};
 ghost use lib.Dec.{eqb};
-ghost use lib.Ieee.{binary64, lt, mul};
 ghost use lib.ListN.{getD, length, replicate};
 ghost use lib.Seq.{paste};
-ghost use Rattle.vector.specs.Number.{abs};
 ghost use Rattle.vector.specs.Rows.{rows, segs};
 ghost use Rattle.vector.specs.View.{vec2};
 ghost use Rattle.weld.specs.Code.{edgesOf};
 ghost use Rattle.stitch.specs.Walk.{clamp, cosineTo, nextEdge, pointAt, straightest, walkFrom, walks};
-ghost use Rattle.stitch.specs.Stitch.{cross2, kindOf, signedArea, turned};
+ghost use Rattle.stitch.specs.Stitch.{counted, cross2, inWalks, kindBy, ruleOf, signedArea, turned};
 ghost use Rattle.stitch.specs.Code.{Arrived, Below, Counting, Ends, Finished, Finishing, FirstFrom, Lent};
 ghost use Rattle.stitch.specs.Code.{Lasts, Past, Ready, Spare, Stitches, Tables, Turn, Went, Wrote};
 ghost use Rattle.stitch.specs.Code.{ahead, better, cosineFor, edgesIn};
 use vector::Vec2;
 
-// How many points, nodes and loops were written, and the four counts of edges.
+// How many points, nodes and loops were written, and the counts of edges.
 pub struct Stitched {
     pub points: usize,
     pub nodes: usize,
     pub loops: usize,
+    pub counts: Counts,
+}
+
+// Edges: how many are listed, and how many of them are in walks that are loops, flat or open.
+pub struct Counts {
     pub listed: usize,
     pub in_loops: usize,
     pub flat: usize,
     pub opened: usize,
+}
+
+// What a walk is.
+pub enum Kind {
+    Loop,
+    Flat,
+    Open,
+}
+
+impl Counts {
+    // The counts with so many edges more, in a walk of this kind.
+    fn plus(self, kind: Kind, edges: usize) -> Counts
+        requires { ⌜ inWalks self + edges < 65536 ⌝ }
+        ensures { λ r. ⌜ r ≡ counted kind edges self ⌝ }
+    {
+        let mut counts = self;
+        match kind {
+            Kind::Loop => {
+                counts.in_loops = self.in_loops + edges;
+            }
+            Kind::Flat => {
+                counts.flat = self.flat + edges;
+            }
+            Kind::Open => {
+                counts.opened = self.opened + edges;
+            }
+        }
+        counts
+    }
+}
+
+// What decides that a closed walk is a loop: the squared tolerance.
+pub struct Rule {
+    pub tol2: f64,
 }
 
 // Stitches s plane segments of a single cell into closed loops.
@@ -42,7 +79,7 @@ pub fn stitch_segments(
     ends: &mut [u32],
 ) -> Stitched
     requires { ⌜ Lent s (now segments) (now points) (now nodes) (now ends) ⌝ }
-    ensures { λ r. ⌜ Stitches (mul binary64 tol tol) (segs 2 s (now (segments .entry))) r (now (points .entry))
+    ensures { λ r. ⌜ Stitches (ruleOf tol) (segs 2 s (now (segments .entry))) r (now (points .entry))
         (now (points .exit)) (now (nodes .entry)) (now (nodes .exit)) (now (ends .entry)) (now (ends .exit)) ⌝ }
 {
     if 16 < s {
@@ -56,7 +93,7 @@ pub fn stitch_segments(
     stitch_within(
         segments,
         s,
-        tol * tol,
+        Rule { tol2: tol * tol },
         points,
         nodes,
         ends,
@@ -78,7 +115,7 @@ fn stitch_many(
     ends: &mut [u32],
 ) -> Stitched
     requires { ⌜ Lent s (now segments) (now points) (now nodes) (now ends) ⌝ }
-    ensures { λ r. ⌜ Stitches (mul binary64 tol tol) (segs 2 s (now (segments .entry))) r (now (points .entry))
+    ensures { λ r. ⌜ Stitches (ruleOf tol) (segs 2 s (now (segments .entry))) r (now (points .entry))
         (now (points .exit)) (now (nodes .entry)) (now (nodes .exit)) (now (ends .entry)) (now (ends .exit)) ⌝ }
 {
     let mut smaller = [0u32; 384];
@@ -89,7 +126,7 @@ fn stitch_many(
     stitch_within(
         segments,
         s,
-        tol * tol,
+        Rule { tol2: tol * tol },
         points,
         nodes,
         ends,
@@ -101,11 +138,11 @@ fn stitch_many(
     )
 }
 
-// Stitches within a squared tolerance: the edges, their marks and the nodes of a walk are in lent slices.
+// Stitches by a rule: the edges, their marks and the nodes of a walk are in lent slices.
 fn stitch_within(
     segments: &[f64],
     s: usize,
-    tol2: f64,
+    rule: Rule,
     points: &mut [f64],
     nodes: &mut [u32],
     ends: &mut [u32],
@@ -117,41 +154,36 @@ fn stitch_within(
 ) -> Stitched
     requires { ⌜ Lent s (now segments) (now points) (now nodes) (now ends)
         × Tables s (now smaller) (now larger) (now used) (now walked) (now last) ⌝ }
-    ensures { λ r. ⌜ Stitches tol2 (segs 2 s (now (segments .entry))) r (now (points .entry)) (now (points .exit))
+    ensures { λ r. ⌜ Stitches rule (segs 2 s (now (segments .entry))) r (now (points .entry)) (now (points .exit))
         (now (nodes .entry)) (now (nodes .exit)) (now (ends .entry)) (now (ends .exit)) ⌝ }
 {
-    let w = weld::weld(segments, s, points, smaller, larger, tol2);
+    let w = weld::weld(segments, s, points, smaller, larger, rule.tol2);
     let m = w.edges;
-    let t = stitch_edges(
+    let tally = stitch_edges(
         points,
         w.points,
         &smaller[..m],
         &larger[..m],
         &mut used[..m],
         walked,
-        tol2,
+        rule,
         nodes,
         ends,
         last,
     );
+    let counts = tally.counts;
     Stitched {
         points: w.points,
-        nodes: t.nodes,
-        loops: t.loops,
-        listed: m,
-        in_loops: t.nodes,
-        flat: t.flat,
-        opened: t.opened,
+        nodes: counts.in_loops,
+        loops: tally.loops,
+        counts: counts,
     }
 }
 
-// What the walks so far have given: the nodes of loops, which are as many as their edges; the loops; and
-// the edges of flat and of open walks.
+// What the walks so far have given: the loops, and the counts of edges. Loops have as many nodes as edges.
 struct Tally {
-    nodes: usize,
     loops: usize,
-    flat: usize,
-    opened: usize,
+    counts: Counts,
 }
 
 // Walks from each unused edge in listed order, and writes the loops.
@@ -162,7 +194,7 @@ fn stitch_edges(
     larger: &[u32],
     used: &mut [bool],
     walked: &mut [u32],
-    tol2: f64,
+    rule: Rule,
     nodes: &mut [u32],
     ends: &mut [u32],
     last: &mut [u16],
@@ -171,36 +203,39 @@ fn stitch_edges(
         × Spare (edgesOf (now smaller) (now larger)) (now walked) (now nodes) (now ends)
         × (now used ≡ replicate (length (now smaller)) false) × (n ≤ length (now last))
         × (now last ≡ replicate (length (now last)) 0) ⌝ }
-    ensures { λ r. ⌜ Wrote (rows 2 n (now (points .entry))) tol2 (length (now (smaller .entry)))
+    ensures { λ r. ⌜ Wrote (rows 2 n (now (points .entry))) rule (length (now (smaller .entry)))
         (walks (rows 2 n (now (points .entry))) (edgesOf (now (smaller .entry)) (now (larger .entry)))) r
         (now (nodes .entry)) (now (nodes .exit)) (now (ends .entry)) (now (ends .exit)) ⌝ }
 {
     last_edges(smaller, larger, last);
-    let mut t = Tally {
-        nodes: 0,
+    let mut tally = Tally {
         loops: 0,
-        flat: 0,
-        opened: 0,
+        counts: Counts {
+            listed: smaller.len(),
+            in_loops: 0,
+            flat: 0,
+            opened: 0,
+        },
     };
     let mut k = 0;
     while k < smaller.len() {
-        t = stitch_from(
+        tally = stitch_from(
             points,
             n,
             smaller,
             larger,
             used,
             walked,
-            tol2,
+            rule,
             nodes,
             ends,
             last,
             k,
-            t,
+            tally,
         );
         k += 1;
     }
-    t
+    tally
 }
 
 // The last edge of each point, by its number.
@@ -228,26 +263,35 @@ fn stitch_from(
     larger: &[u32],
     used: &mut [bool],
     walked: &mut [u32],
-    tol2: f64,
+    rule: Rule,
     nodes: &mut [u32],
     ends: &mut [u32],
     last: &[u16],
     k: usize,
-    t: Tally,
+    tally: Tally,
 ) -> Tally
     requires { ⌜ Ready n (now points) (now smaller) (now larger) (now used)
         × Spare (edgesOf (now smaller) (now larger)) (now walked) (now nodes) (now ends) × (k < length (now smaller))
-        × Counting t (now used) × (n ≤ length (now last)) × Lasts (edgesOf (now smaller) (now larger)) (now last) ⌝ }
-    ensures { λ r. ⌜ Turn (rows 2 n (now (points .entry))) (edgesOf (now (smaller .entry)) (now (larger .entry))) tol2
-        k (getD (now (used .entry)) k true) (now (used .entry)) t (now (nodes .entry)) (now (ends .entry))
+        × Counting tally (now used) × (n ≤ length (now last)) × Lasts (edgesOf (now smaller) (now larger)) (now last) ⌝ }
+    ensures { λ r. ⌜ Turn (rows 2 n (now (points .entry))) (edgesOf (now (smaller .entry)) (now (larger .entry))) rule
+        k (getD (now (used .entry)) k true) (now (used .entry)) tally (now (nodes .entry)) (now (ends .entry))
         (now (used .exit)) r (now (nodes .exit)) (now (ends .exit)) ⌝ }
 {
     if used[k] {
-        return t;
+        return tally;
     }
     let w = walk(points, n, smaller, larger, used, walked, last, k);
     let count = w.nodes;
-    finish(points, n, &walked[..count], w.closed, tol2, nodes, ends, t)
+    finish(
+        points,
+        n,
+        &walked[..count],
+        w.closed,
+        rule,
+        nodes,
+        ends,
+        tally,
+    )
 }
 
 // What walking from an edge found: how many nodes and edges, and whether it came back to its start.
@@ -547,44 +591,38 @@ fn finish(
     n: usize,
     walked: &[u32],
     closed: bool,
-    tol2: f64,
+    rule: Rule,
     nodes: &mut [u32],
     ends: &mut [u32],
-    t: Tally,
+    tally: Tally,
 ) -> Tally
-    requires { ⌜ Finishing n (now points) (now walked) closed t (now nodes) (now ends) ⌝ }
-    ensures { λ r. ⌜ Finished
-        (kindOf closed (lt tol2 (abs (signedArea (rows 2 n (now (points .entry))) (now (walked .entry))))))
+    requires { ⌜ Finishing n (now points) (now walked) closed tally (now nodes) (now ends) ⌝ }
+    ensures { λ r. ⌜ Finished (kindBy (rows 2 n (now (points .entry))) rule closed (now (walked .entry)))
         (turned (rows 2 n (now (points .entry))) (now (walked .entry)))
-        (edgesIn closed (length (now (walked .entry)))) t (now (nodes .entry)) (now (ends .entry)) r
+        (edgesIn closed (length (now (walked .entry)))) tally (now (nodes .entry)) (now (ends .entry)) r
         (now (nodes .exit)) (now (ends .exit)) ⌝ }
 {
     let m = walked.len();
+    let counts = tally.counts;
     if !closed {
         return Tally {
-            nodes: t.nodes,
-            loops: t.loops,
-            flat: t.flat,
-            opened: t.opened + (m - 1),
+            loops: tally.loops,
+            counts: counts.plus(Kind::Open, m - 1),
         };
     }
     let area = signed_area(points, n, walked);
-    if tol2 < vector::absolute(area) {
-        let at = t.loops;
-        put_loop(nodes, t.nodes, walked, area < 0.0);
-        ends[at] = (t.nodes + m) as u32;
+    if rule.tol2 < vector::absolute(area) {
+        let at = tally.loops;
+        put_loop(nodes, counts.in_loops, walked, area < 0.0);
+        ends[at] = (counts.in_loops + m) as u32;
         return Tally {
-            nodes: t.nodes + m,
-            loops: t.loops + 1,
-            flat: t.flat,
-            opened: t.opened,
+            loops: at + 1,
+            counts: counts.plus(Kind::Loop, m),
         };
     }
     Tally {
-        nodes: t.nodes,
-        loops: t.loops,
-        flat: t.flat + m,
-        opened: t.opened,
+        loops: tally.loops,
+        counts: counts.plus(Kind::Flat, m),
     }
 }
 

@@ -4,12 +4,13 @@ use mathlib.Core.Path.{_≡_}
 use mathlib.Core.List.{List}
 use Prim.Native.Nat.{ℕ, _/_, _*_, _≤_}
 use lib.ListN.{length}
-use lib.Ieee.{Float, binary64, mul}
+use lib.Ieee.{Float}
 use Rattle.vector.specs.Vector.{Vector, Direction, along, nowhere, Framed, framed, unframed, project}
 use Rattle.vector.specs.Rows.{put, row, rows, segs}
 use Rattle.clip.specs.Clip.{Cut, planeSectionSegments}
 use Rattle.clip.specs.Cell.{atMost}
 use Rattle.clip.specs.Code.{Segments}
+use Rattle.stitch.specs.Stitch.{ruleOf}
 use Rattle.stitch.specs.Code.{Stitches}
 use Rattle.stitch.specs.declared.Stitched.{Stitched}
 use Rattle.trial.specs.declared.Answer.{Answer}
@@ -50,17 +51,14 @@ stitchedIn r =
       points = r .points;
       nodes = r .nodes;
       loops = r .loops;
-      listed = r .listed;
-      «in_loops» = r .«in_loops»;
-      flat = r .flat;
-      opened = r .opened;
+      counts = record { listed = r .listed; «in_loops» = r .«in_loops»; flat = r .flat; opened = r .opened };
     }
 
 -- the answer where the lengths fit
 pub record Stitching (segments : List Float) (tol : Float) (r : Answer) (points points′ : List Float) (nodes nodes′ ends ends′ : List ℕ)
     : Type 0 where
   pub said : r .fitted ≡ 1
-  pub stitches : Stitches (mul binary64 tol tol) (segs 2 (length segments / 4) segments) (stitchedIn r) points points′ nodes nodes′ ends ends′
+  pub stitches : Stitches (ruleOf tol) (segs 2 (length segments / 4) segments) (stitchedIn r) points points′ nodes nodes′ ends ends′
 
 -- the answer where they do not: the buffers are as they were
 pub record Unstitched (r : Answer) (points points′ : List Float) (nodes nodes′ ends ends′ : List ℕ) : Type 0 where

@@ -168,15 +168,16 @@ pub extern "C" fn trial_stitch(
         return unfit();
     }
     let r = stitch::stitch_segments(segments, s, tol, points, nodes, ends);
+    let counts = r.counts;
     Answer {
         fitted: 1,
         points: r.points,
         nodes: r.nodes,
         loops: r.loops,
-        listed: r.listed,
-        in_loops: r.in_loops,
-        flat: r.flat,
-        opened: r.opened,
+        listed: counts.listed,
+        in_loops: counts.in_loops,
+        flat: counts.flat,
+        opened: counts.opened,
     }
 }
 

@@ -8,17 +8,17 @@ use borrow.Author.Needs.{needs}
 use Rattle.stitch.proofs.finish.Statement.{statement}
 use Rattle.stitch.proofs.finish.Tie as tie
 
-sub-t13 : tie.Need-sub-t13
-sub-t13 c = search needs
+sub-plus : tie.Need-sub-plus
+sub-plus c = search needs
 
-add-t14 : tie.Need-add-t14
-add-t14 c = search needs
+plus-requires : tie.Need-plus-requires
+plus-requires c κs = search needs
 
 returns : tie.Need-returns
 returns c =
-    let g = c .before .before .before .before .before .before .args in
-    finish-open (rows 2 (g .n) (g .points .now)) (g .tol2) (g .walked .now) (g .closed) (g .t) (g .nodes .now) (g .ends .now)
-    (not-true (g .closed) (c .before .if1 .taken))
+    let g = c .before .before .before .before .before .before .before .args in
+    finish-open (rows 2 (g .n) (g .points .now)) (g .rule) (g .walked .now) (g .closed) (g .tally) (g .nodes .now) (g .ends .now)
+    (not-true (g .closed) (c .before .if1 .taken)) (c .plus .ensures)
 
 signed-area-requires : tie.Need-signed-area-requires
 signed-area-requires c κs = search needs
@@ -27,10 +27,7 @@ absolute-requires : tie.Need-absolute-requires
 absolute-requires c κs = search needs
 
 put-loop-requires : tie.Need-put-loop-requires
-put-loop-requires c κs =
-    c .before .before .before .before .before .before .before .before .before .pre .nodes-room (not-false
-    (c .before .before .before .before .before .before .before .before .before .args .closed)
-    (c .before .before .before .before .if1 .left))
+put-loop-requires c κs = c .before .before .before .before .before .before .before .before .before .before .before .pre .nodes-room (not-false (c .before .before .before .before .before .before .before .before .before .before .before .args .closed) (c .before .before .before .before .before .if1 .left))
 
 add-ends : tie.Need-add-ends
 add-ends c = search needs
@@ -39,34 +36,16 @@ cast-ends : tie.Need-cast-ends
 cast-ends c = search needs
 
 mul-ends : tie.Need-mul-ends
-mul-ends c =
-    omega (
-      arith,
-      c .before .before .before .before .before .before .before .before .before .before .before .before .before .pre .ends-room
-          (not-false (c .before .before .before .before .before .before .before .before .before .before .before .before .before .args .closed)
-          (c .before .before .before .before .before .before .before .before .if1 .left)),
-    )
+mul-ends c = omega (arith, c .before .before .before .before .before .before .before .before .before .before .before .before .before .before .before .pre .ends-room (not-false (c .before .before .before .before .before .before .before .before .before .before .before .before .before .before .before .args .closed) (c .before .before .before .before .before .before .before .before .before .if1 .left)))
 
 slice-write-ends : tie.Need-slice-write-ends
-slice-write-ends c =
-    omega (
-      arith,
-      c .before .before .before .before .before .before .before .before .before .before .before .before .before .pre .ends-room
-          (not-false (c .before .before .before .before .before .before .before .before .before .before .before .before .before .args .closed)
-          (c .before .before .before .before .before .before .before .before .if1 .left)),
-    )
-
-add-t20 : tie.Need-add-t20
-add-t20 c = search needs
+slice-write-ends c = omega (arith, c .before .before .before .before .before .before .before .before .before .before .before .before .before .before .before .pre .ends-room (not-false (c .before .before .before .before .before .before .before .before .before .before .before .before .before .before .before .args .closed) (c .before .before .before .before .before .before .before .before .before .if1 .left)))
 
 add-t22 : tie.Need-add-t22
-add-t22 c =
-    omega (
-      arith,
-      c .before .before .before .before .before .before .before .before .before .before .before .before .before .before .before
-          .pre .ends-room (not-false (c .before .before .before .before .before .before .before .before .before .before .before .before .before
-          .before .before .args .closed) (c .before .before .before .before .before .before .before .before .before .before .if1 .left)),
-    )
+add-t22 c = omega (arith, c .before .before .before .before .before .before .before .before .before .before .before .before .before .before .before .pre .ends-room (not-false (c .before .before .before .before .before .before .before .before .before .before .before .before .before .before .before .args .closed) (c .before .before .before .before .before .before .before .before .before .if1 .left)))
+
+plus-requires-2 : tie.Need-plus-requires-2
+plus-requires-2 c κs = search needs
 
 same-length : tie.Need-same-length
 same-length c = search needs
@@ -77,34 +56,27 @@ same-length-2 c = search needs
 returns-2 : tie.Need-returns-2
 unfolding ofBits
 returns-2 c =
-    let g =
-    c .before .before .before .before .before .before .before .before .before .before .before .before .before .before .before .args in
-    finish-loop (rows 2 (g .n) (g .points .now)) (g .tol2) (g .walked .now) (g .closed) (g .t) (g .nodes .now) (g .ends .now)
-    (c .before .before .before .before .before .before .before .before .before .signed-area .result)
-    (c .before .before .before .before .before .before .before .before .absolute .result)
-    (not-false (g .closed) (c .before .before .before .before .before .before .before .before .before .before .if1 .left))
-    (c .before .before .before .before .before .before .before .before .before .signed-area .ensures)
-    (c .before .before .before .before .before .before .before .before .absolute .ensures) _
-    (c .before .before .before .before .before .before .before .if2 .taken)
-    (c .before .before .before .before .before .put-loop .ensures)
+    let g = c .before .before .before .before .before .before .before .before .before .before .before .before .before .before .before .before .args in
+    finish-loop (rows 2 (g .n) (g .points .now)) (g .rule) (g .walked .now) (g .closed) (g .tally) (g .nodes .now) (g .ends .now)
+    (c .before .before .before .before .before .before .before .before .before .signed-area .result) (c .before .before .before .before .before .before .before .before .absolute .result) (not-false (g .closed) (c .before .before .before .before .before .before .before .before .before .before .if1 .left)) (c .before .before .before .before .before .before .before .before .before .signed-area .ensures) (c .before .before .before .before .before .before .before .before .absolute .ensures) _
+    (c .before .before .before .before .before .before .if2 .taken) (c .plus2 .ensures) (c .before .before .before .before .put-loop .ensures)
 
-add-t24 : tie.Need-add-t24
-add-t24 c = search needs
+plus-requires-3 : tie.Need-plus-requires-3
+plus-requires-3 c κs = search needs
 
 returns-3 : tie.Need-returns-3
 returns-3 c =
-    let g = c .before .before .before .before .before .before .before .before .before .args in
-    finish-flat (rows 2 (g .n) (g .points .now)) (g .tol2) (g .walked .now) (g .closed) (g .t) (g .nodes .now) (g .ends .now)
-    (c .before .before .before .signed-area .result) (c .before .before .absolute .result)
-    (not-false (g .closed) (c .before .before .before .before .if1 .left)) (c .before .before .before .signed-area .ensures)
-    (c .before .before .absolute .ensures) (c .before .if2 .left)
+    let g = c .before .before .before .before .before .before .before .before .before .before .before .args in
+    finish-flat (rows 2 (g .n) (g .points .now)) (g .rule) (g .walked .now) (g .closed) (g .tally) (g .nodes .now) (g .ends .now)
+    (c .before .before .before .before .signed-area .result) (c .before .before .before .absolute .result) (not-false (g .closed) (c .before .before .before .before .before .if1 .left)) (c .before .before .before .before .signed-area .ensures) (c .before .before .before .absolute .ensures)
+    (c .before .if2 .left) (c .plus3 .ensures)
 
 pub finish-spec : {M : Type 1} → statement M
 finish-spec =
     tie.close
     (tie.spec
-    sub-t13
-    add-t14
+    sub-plus
+    plus-requires
     returns
     signed-area-requires
     absolute-requires
@@ -113,10 +85,10 @@ finish-spec =
     cast-ends
     mul-ends
     slice-write-ends
-    add-t20
     add-t22
+    plus-requires-2
     same-length
     same-length-2
     returns-2
-    add-t24
+    plus-requires-3
     returns-3)

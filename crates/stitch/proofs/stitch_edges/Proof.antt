@@ -9,11 +9,11 @@ use Rattle.stitch.proofs.stitch_edges.Statement.{statement}
 use Rattle.stitch.proofs.stitch_edges.Tie as tie
 
 abbrev Inv-loop : tie.InvT-loop
-Inv-loop points n smaller larger used₀ walked₀ tol2 nodes₀ ends₀ last t₀ k₀ used walked nodes ends t k =
-    Looping n points smaller larger tol2 used₀ walked₀ nodes₀ ends₀ used walked nodes ends t k
+Inv-loop points n smaller larger used₀ walked₀ rule nodes₀ ends₀ last tally₀ k₀ used walked nodes ends tally k =
+    Looping n points smaller larger rule used₀ walked₀ nodes₀ ends₀ used walked nodes ends tally k
 
 abbrev μ-loop : tie.MeasureT-loop
-μ-loop points n smaller larger used₀ walked₀ tol2 nodes₀ ends₀ last t₀ k₀ used walked nodes ends t k = length smaller - k
+μ-loop points n smaller larger used₀ walked₀ rule nodes₀ ends₀ last tally₀ k₀ used walked nodes ends tally k = length smaller - k
 
 last-edges-requires : tie.Need-last-edges-requires Inv-loop μ-loop
 last-edges-requires c κs =
@@ -30,7 +30,7 @@ loop-holds : tie.Need-loop-holds Inv-loop μ-loop
 loop-holds c =
     let s = c .before .before .before .before .before .before .before .before .before .before .before .before in
     let g = s .args in
-    looping-start (g .n) (g .points .now) (g .smaller .now) (g .larger .now) (g .tol2) (g .used .now) (g .walked .now) (g .nodes .now)
+    looping-start (g .n) (g .points .now) (g .smaller .now) (g .larger .now) (g .rule) (g .used .now) (g .walked .now) (g .nodes .now)
     (g .ends .now)
     (s .pre .0 .ends .same) (s .pre .2)
 
@@ -40,12 +40,12 @@ stitch-from-requires c κs =
     .before .before .before .before in
     let g = s .args in
     let l = c .before .before .before .before .before .before .loop in (
-      looping-ready (g .n) (g .points .now) (g .smaller .now) (g .larger .now) (g .tol2) (g .used .now) (g .walked .now) (g .nodes .now)
+      looping-ready (g .n) (g .points .now) (g .smaller .now) (g .larger .now) (g .rule) (g .used .now) (g .walked .now) (g .nodes .now)
           (g .ends .now)
-          (l .used) (l .walked) (l .nodes) (l .ends) (l .t) (l .k) (l .inv) (s .pre .0) (s .pre .1),
-      looping-spare (g .n) (g .points .now) (g .smaller .now) (g .larger .now) (g .tol2) (g .used .now) (g .walked .now) (g .nodes .now)
+          (l .used) (l .walked) (l .nodes) (l .ends) (l .tally) (l .k) (l .inv) (s .pre .0) (s .pre .1),
+      looping-spare (g .n) (g .points .now) (g .smaller .now) (g .larger .now) (g .rule) (g .used .now) (g .walked .now) (g .nodes .now)
           (g .ends .now)
-          (l .used) (l .walked) (l .nodes) (l .ends) (l .t) (l .k) (l .inv) (s .pre .0) (s .pre .1),
+          (l .used) (l .walked) (l .nodes) (l .ends) (l .tally) (l .k) (l .inv) (s .pre .0) (s .pre .1),
       c .before .before .before .before .before .loop-test .taken,
       l .inv .so-far .counting,
       omega (arith, s .pre .3, c .before .before .before .before .before .before .before .before .before .last-edges .kept .1 .1 .0),
@@ -79,9 +79,9 @@ loop-again c =
     let l =
     c .before .before .before .before .before .before .before .before .before .before .before .before .before .before .before .loop in
     let f = c .before .before .before .before .before .before .before .before .stitch-from in
-    looping-step (g .n) (g .points .now) (g .smaller .now) (g .larger .now) (g .tol2) (g .used .now) (g .walked .now) (g .nodes .now)
+    looping-step (g .n) (g .points .now) (g .smaller .now) (g .larger .now) (g .rule) (g .used .now) (g .walked .now) (g .nodes .now)
     (g .ends .now)
-    (l .used) (l .walked) (l .nodes) (l .ends) (l .t) (l .k) (l .inv) (s .pre .0) (s .pre .1)
+    (l .used) (l .walked) (l .nodes) (l .ends) (l .tally) (l .k) (l .inv) (s .pre .0) (s .pre .1)
     (c .before .before .before .before .before .before .before .before .before .before .before .before .before .before .loop-test .taken)
     (f .last .1 .1 .1 .1 .0) (f .last .1 .1 .1 .1 .1 .0) (f .last .1 .1 .1 .1 .1 .1 .1 .0) (f .last .1 .1 .1 .1 .1 .1 .1 .1 .0) (f .result)
     (f .kept .1 .1 .1 .1 .0) (f .kept .1 .1 .1 .1 .1 .0) (f .kept .1 .1 .1 .1 .1 .1 .1 .0) (f .kept .1 .1 .1 .1 .1 .1 .1 .1 .0) (f .ensures)
@@ -106,9 +106,9 @@ returns c =
     let s = c .before .before .before .before .before .before .before .before .before .before .before .before .before .before in
     let g = s .args in
     let l = c .before .loop in
-    looping-end (g .n) (g .points .now) (g .smaller .now) (g .larger .now) (g .tol2) (g .used .now) (g .walked .now) (g .nodes .now)
+    looping-end (g .n) (g .points .now) (g .smaller .now) (g .larger .now) (g .rule) (g .used .now) (g .walked .now) (g .nodes .now)
     (g .ends .now)
-    (l .used) (l .walked) (l .nodes) (l .ends) (l .t) (l .k) (l .inv) (s .pre .0) (s .pre .1) (c .loop-test .left)
+    (l .used) (l .walked) (l .nodes) (l .ends) (l .tally) (l .k) (l .inv) (s .pre .0) (s .pre .1) (c .loop-test .left)
 
 pub stitch-edges-spec : {M : Type 1} → statement M
 stitch-edges-spec =

@@ -36,7 +36,7 @@ free c = sym (mark (entry c)) ∙ c .before .before .before .if1 .left
 returns : tie.Need-returns
 returns c =
     let g = c .before .before .before .before .before .before .before .before .before .before .args in
-    turn-used (rows 2 (g .n) (g .points .now)) (edgesOf (g .smaller .now) (g .larger .now)) (g .tol2) (g .k) (g .used .now) (g .t)
+    turn-used (rows 2 (g .n) (g .points .now)) (edgesOf (g .smaller .now) (g .larger .now)) (g .rule) (g .k) (g .used .now) (g .tally)
     (g .nodes .now)
     (g .ends .now) (sym (mark (c .before .before .before .before .before .before .before .before .before .before)) ∙ c .if1 .taken)
 
@@ -58,7 +58,7 @@ slice-reshare-prefix-finish c =
     let a = c .before .before .before .before in
     let s = entry a in
     let g = s .args in
-    walked-fits (g .n) (g .points .now) (g .smaller .now) (g .larger .now) (g .used .now) (g .k) (g .t) (g .walked .now) (g .nodes .now)
+    walked-fits (g .n) (g .points .now) (g .smaller .now) (g .larger .now) (g .used .now) (g .k) (g .tally) (g .walked .now) (g .nodes .now)
     (g .ends .now)
     (s .pre .0) (s .pre .1) (s .pre .3) (s .pre .2) (free a) (a .walk .result .nodes) (a .walk .result .edges) (a .walk .result .closed) _
     (buffer a)
@@ -69,7 +69,7 @@ slice-aggregate-finish c =
     let a = c .before .before .before .before .before in
     let s = entry a in
     let g = s .args in
-    walked-count (g .n) (g .points .now) (g .smaller .now) (g .larger .now) (g .used .now) (g .k) (g .t) (g .walked .now) (g .nodes .now)
+    walked-count (g .n) (g .points .now) (g .smaller .now) (g .larger .now) (g .used .now) (g .k) (g .tally) (g .walked .now) (g .nodes .now)
     (g .ends .now)
     (s .pre .0) (s .pre .1) (s .pre .3) (s .pre .2) (free a) (a .walk .result .nodes) (a .walk .result .edges) (a .walk .result .closed) _
     (buffer a)
@@ -80,7 +80,7 @@ finish-requires c κs =
     let a = c .before .before .before .before .before .before .before in
     let s = entry a in
     let g = s .args in
-    finishing (g .n) (g .points .now) (g .smaller .now) (g .larger .now) (g .used .now) (g .k) (g .t) (g .walked .now) (g .nodes .now)
+    finishing (g .n) (g .points .now) (g .smaller .now) (g .larger .now) (g .used .now) (g .k) (g .tally) (g .walked .now) (g .nodes .now)
     (g .ends .now)
     (s .pre .0) (s .pre .1) (s .pre .3) (s .pre .2) (free a) (a .walk .result .nodes) (a .walk .result .edges) (a .walk .result .closed) _
     (buffer a)
@@ -103,11 +103,11 @@ returns-2 c =
     let a = c .before .before .before .before .before .before .before .before .before .before .before .before in
     let s = entry a in
     let g = s .args in
-    turn-free (g .n) (g .points .now) (g .smaller .now) (g .larger .now) (g .used .now) (g .k) (g .t) (g .walked .now) (g .nodes .now)
+    turn-free (g .n) (g .points .now) (g .smaller .now) (g .larger .now) (g .used .now) (g .k) (g .tally) (g .walked .now) (g .nodes .now)
     (g .ends .now)
     (s .pre .0) (s .pre .1) (s .pre .3) (s .pre .2) (free a) (a .walk .result .nodes) (a .walk .result .edges) (a .walk .result .closed) _
     (buffer a)
-    (a .walk .ensures) (g .tol2) (c .before .before .before .before .finish .result) _ _
+    (a .walk .ensures) (g .rule) (c .before .before .before .before .finish .result) _ _
     (c .before .before .before .before .finish .ensures)
 
 pub stitch-from-spec : {M : Type 1} → statement M

@@ -47,7 +47,7 @@ same-length-3 c = search needs
 
 returns-5 : tie.Need-returns-5
 returns-5 c =
-    it-fits (record { given = omega arith; few = omega arith; for-points = omega arith; for-nodes = omega arith; for-ends = omega arith }) (record { said = refl; stitches = c .before .before .before .before .before .before .stitch-segments .ensures })
+    it-fits (record { given = omega arith; few = omega arith; for-points = omega arith; for-nodes = omega arith; for-ends = omega arith }) (record { said = refl; stitches = c .before .before .before .before .before .before .before .stitch-segments .ensures })
 
 pub trial-stitch-spec : {M : Type 1} → statement M
 trial-stitch-spec =
