@@ -10,10 +10,10 @@ use lib.ListN.{length, take, drop, length-map}
 use lib.Seq.{take-at, drop-at}
 use Rattle.rows.specs.Outcome.{found}
 use Rattle.rows.proofs.Outcomes.{never-both}
-use Rattle.cell.specs.Types.{spaceCorners, planeCorners}
+use Rattle.cell.specs.Types.{spaceType, spaceCorners, planeType, planeCorners}
 use Rattle.cell.specs.Read.{corner, Typed, untyped, typed, readAs, typedInSpace, typedInPlane}
 use Rattle.cell.specs.Code.{below}
-use Rattle.cell.specs.Claims.{facesAs, Alike, AmongFirst, MidSidesFree, SpaceMidSidesFree, PlaneMidSidesFree}
+use Rattle.cell.specs.Claims.{facesAs, Alike, AmongFirst, MidSidesFree, SpaceMidSidesFree, PlaneMidSidesFree, AlikeInSpace, AlikeInPlane}
 use Rattle.cell.specs.declared.types.InSpace.the-variants as s
 use Rattle.cell.specs.declared.types.InPlane.the-variants as p
 use Rattle.cell.proofs.Inside.{among-corners}
@@ -81,3 +81,13 @@ pub plane-mid-sides-free : PlaneMidSidesFree
 plane-mid-sides-free t =
     mid-sides-free 2 (typedInPlane (p.Known t)) (planeCorners t)
     (λ c. polygon-below (planeCorners t (length c)) (planeCorners t (length c)) (omega arith))
+
+pub alike-in-space : AlikeInSpace
+alike-in-space k k′ ps ps′ r r′ z =
+    let e = ap (λ t. readAs 3 (typedInSpace (spaceType t)) (k′ .conn) (k′ .coords)) (z .number) in
+    alike 3 (typedInSpace (spaceType (k .number))) (k .conn) (k′ .conn) (k .coords) (k′ .coords) ps ps′ r (e ∙ r′) (z .corners) ∙ e
+
+pub alike-in-plane : AlikeInPlane
+alike-in-plane k k′ ps ps′ r r′ z =
+    let e = ap (λ t. readAs 2 (typedInPlane (planeType t)) (k′ .conn) (k′ .coords)) (z .number) in
+    alike 2 (typedInPlane (planeType (k .number))) (k .conn) (k′ .conn) (k .coords) (k′ .coords) ps ps′ r (e ∙ r′) (z .corners) ∙ e

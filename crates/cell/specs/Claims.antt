@@ -1,6 +1,6 @@
 -- What is shown of the reading: its bounds, and that mid-side nodes never matter. Statements only.
 -- They are proved by `space-bounded` and `plane-bounded`, in proofs/Bounds.antt,
--- and by `alike`, `space-mid-sides-free` and `plane-mid-sides-free`, in proofs/Alike.antt.
+-- and by `alike`, `alike-in-space`, `alike-in-plane`, `space-mid-sides-free` and `plane-mid-sides-free`, in proofs/Alike.antt.
 use Prim.Native.Nat.{ℕ, _*_, _≤_, _<_}
 use mathlib.Core.Path.{_≡_}
 use mathlib.Core.List.{List, [], map, flatten}
@@ -88,3 +88,23 @@ SpaceMidSidesFree = (t : SpaceType) → MidSidesFree 3 (typedInSpace (s.Known t)
 
 abbrev pub PlaneMidSidesFree : Type 0
 PlaneMidSidesFree = (t : PlaneType) → MidSidesFree 2 (typedInPlane (p.Known t)) (planeCorners t)
+
+-- ---- cells with the same corners
+
+-- equal types, and the same corner coordinates face by face, in space and in the plane
+pub record SameInSpace (k k′ : Cell) : Type 0 where
+  pub number : k .number ≡ k′ .number
+  pub corners : SameCorners 3 (typedInSpace (spaceType (k .number))) (k .conn) (k′ .conn) (k .coords) (k′ .coords)
+
+pub record SameInPlane (k k′ : Cell) : Type 0 where
+  pub number : k .number ≡ k′ .number
+  pub corners : SameCorners 2 (typedInPlane (planeType (k .number))) (k .conn) (k′ .conn) (k .coords) (k′ .coords)
+
+-- so accepted cells are read alike, whatever their mid-side nodes hold
+abbrev pub AlikeInSpace : Type 0
+AlikeInSpace =
+    (k k′ : Cell) (ps ps′ : List Polygon) → spaceCell k ≡ found ps → spaceCell k′ ≡ found ps′ → SameInSpace k k′ → spaceCell k ≡ spaceCell k′
+
+abbrev pub AlikeInPlane : Type 0
+AlikeInPlane =
+    (k k′ : Cell) (ps ps′ : List Polygon) → planeCell k ≡ found ps → planeCell k′ ≡ found ps′ → SameInPlane k k′ → planeCell k ≡ planeCell k′

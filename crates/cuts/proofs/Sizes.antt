@@ -182,6 +182,10 @@ kept-few H.Wedge m e = omega (arith, e)
 kept-few H.Hex m e = omega (arith, e)
 kept-few H.Phed m e = e
 
+-- the corners of polygons that were found
+pub found-few : (k : Cell) (ps : List Polygon) → spaceCell k ≡ found ps → length (flatten ps) ≤ 256
+found-few k ps r = let q = space-read k ps r in kept-few (shapeOf (q .kind)) (length (flatten ps)) (space-bounds k ps q .corners)
+
 module _ (k : Cell) (a : Accepted (spaceCell k)) where
   abbrev ps : List Polygon
   ps = polygonsOf (spaceCell k)
@@ -205,9 +209,7 @@ module _ (k : Cell) (a : Accepted (spaceCell k)) where
       in-all m f ps (omega (arith, phed-corners (read .kind) (k .conn) (sym number-is ∙ e))) (space-bounds k ps read .faces) l
 
   pub any-within : CellWithin 256 85 256 k
-  any-within =
-      let b = space-bounds k ps read in
-      in-all 256 85 ps (kept-few (shapeOf (read .kind)) (length (flatten ps)) (b .corners)) (b .faces) (omega arith)
+  any-within = in-all 256 85 ps (found-few k ps a) (space-bounds k ps read .faces) (omega arith)
 
 -- ---- the faces that were read fit their scratch
 

@@ -1,4 +1,1 @@
-pub mod Outcomes
-pub mod Steps
 pub mod Claims
-pub mod Table

@@ -1,3 +1,1 @@
-pub mod Code
-pub mod Claims
-pub mod Table
+pub mod PlaneCut

@@ -17,3 +17,4 @@ pub mod Ending
 pub mod Turns
 pub mod Stitching
 pub mod Welded
+pub mod Entries

@@ -2,3 +2,4 @@ pub mod Walk
 pub mod Stitch
 pub mod Claim
 pub mod Code
+pub mod Entry

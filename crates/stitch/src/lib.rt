@@ -1,4 +1,6 @@
 // Stitching: the walks along listed edges, the loops among them, and the counts of edges.
+pub mod alone;
+
 ghost use mathlib.Core.Path.{_≡_};
 ghost use mathlib.Core.Bool.{cond, false, not, true, _&&_, _||_};
 ghost use mathlib.Core.List.{reverse};

@@ -1,29 +1,30 @@
 -- `section_cell_by_plane` meets its contract: the cell is tested, the plane placed, the room looked at, and then nothing is refused.
 -- Assumes nothing.
-use Rattle.cuts.specs.Entries.{planeBy, sectionIn}
-use Rattle.cuts.specs.Outcome.{Outcome}
-use Rattle.stitch.specs.Stitch.{Answer}
-use Rattle.cell.specs.Read.{Polygon}
-use Rattle.vector.specs.Vector.{Frame}
 use mathlib.Core.List.{List}
+use mathlib.Core.Path.{_∙_, ap, sym}
 use Prim.Native.Nat.{ℕ}
-use lib.ListN.{length}
-use Rattle.cuts.proofs.Refusals.{test-failed, test-passed}
-use mathlib.Core.Path.{_∙_, sym}
 use native.Mathlib.Omega.{arith}
 use borrow.Author.Tests.{not-true, not-false}
-use Rattle.plane_cut.proofs.Outcomes.{gave-refusal, gave-section}
+use Rattle.rows.specs.Outcome.{Outcome}
+use Rattle.rows.proofs.Outcomes.{test-failed, test-passed}
+use Rattle.vector.specs.Vector.{Frame}
+use Rattle.cell.specs.Read.{Polygon, cell}
+use Rattle.stitch.specs.Stitch.{Answer}
+use Rattle.stitch.specs.Entry.{buffers, lengths}
+use Rattle.stitch.proofs.Entries.{gave-refusal, gave-section}
+use Rattle.cuts.specs.Cuts.{placeIn, through}
+use Rattle.cuts.specs.Code.{placing}
+use Rattle.cuts.specs.declared.Way.the-variants.{Normal}
 use Rattle.cuts.proofs.Cutting.{at-work, cell-refused, corners-few, place-refused}
-use Rattle.plane_cut.proofs.Steps.{sections}
+use Rattle.plane_cut.specs.PlaneCut.{sectionIn}
+use Rattle.plane_cut.proofs.Claims.{can-section}
 use borrow.Author.Needs.{needs}
 use Rattle.plane_cut.proofs.section_cell_by_plane.Statement.{statement}
 use Rattle.plane_cut.proofs.section_cell_by_plane.Tie as tie
 
 -- what the entry does with m corners of polygons on a plane
 abbrev work : tie.Start → ℕ → List Polygon → Frame → Outcome Answer
-work s m =
-    let g = s .args in
-    sectionIn (g .tol) m (length (g .numbers .now)) (length (g .nodes .now)) (length (g .ends .now))
+work s = let g = s .args in sectionIn (g .tol) (lengths (buffers (g .numbers .now) (g .nodes .now) (g .ends .now)))
 
 test-space-cell-requires : tie.Need-test-space-cell-requires
 test-space-cell-requires c κs = search needs
@@ -44,41 +45,33 @@ enum-known-plane : tie.Need-enum-known-plane
 enum-known-plane c = search needs
 
 mul-room : tie.Need-mul-room
-mul-room c =
-    let s = c .before .before .before .before .before .before .before .before .before .before .before .before .before .before .before in
-    let g = s .args in
-    omega (arith, corners-few (g .t) (g .conn .now) (g .xs .now) (c .before .before .before .before .before .before .before .test-space-cell .ensures) (c .before .before .before .before .before .corners .given .1))
+mul-room c = let s = c .before .before .before .before .before .before .before .before .before .before .before .before .before .before .before in omega (arith, corners-few (cell (s .args .t) (s .args .conn .now) (s .args .xs .now)) (c .before .before .before .before .before .before .before .test-space-cell .ensures) (c .before .before .before .before .before .corners .given .1))
 
 mul-room-2 : tie.Need-mul-room-2
-mul-room-2 c =
-    let s = c .before .before .before .before .before .before .before .before .before .before .before .before .before .before .before in
-    let g = s .args in
-    omega (arith, corners-few (g .t) (g .conn .now) (g .xs .now) (c .before .before .before .before .before .before .before .test-space-cell .ensures) (c .before .before .before .before .before .corners .given .1))
+mul-room-2 c = let s = c .before .before .before .before .before .before .before .before .before .before .before .before .before .before .before in omega (arith, corners-few (cell (s .args .t) (s .args .conn .now) (s .args .xs .now)) (c .before .before .before .before .before .before .before .test-space-cell .ensures) (c .before .before .before .before .before .corners .given .1))
 
 room-requires : tie.Need-room-requires
 room-requires c κs = search needs
 
 returns : tie.Need-returns
-returns c =
+returns c = 
     let s = c .before .before .before .before .before .before .before .before .before .before .before .before .before .before .before .before .before in
-    gave-refusal _ _ _ (at-work (c .before .before .before .before .before .before .before .before .before .test-space-cell .ensures) (c .before .before .before .before .before .before .before .corners .given .1) (work s) (c .before .before .before .before .before .place .ensures) (c .before .before .before .plane .given .1) (test-failed 7 _ _ (sym (c .before .room .ensures) ∙ not-true _ (c .if1 .taken))))
+    gave-refusal _ (at-work (c .before .before .before .before .before .before .before .before .before .test-space-cell .ensures) (c .before .before .before .before .before .before .before .corners .given .1) (work s) (sym (c .before .before .before .before .before .place .ensures) ∙ ap placing (c .before .before .before .plane .given .1)) (test-failed 7 _ _ (sym (c .before .room .ensures) ∙ not-true _ (c .if1 .taken))))
 
 section-cell-requires : tie.Need-section-cell-requires
-section-cell-requires c κs =
+section-cell-requires c κs = 
     let s = c .before .before .before .before .before .before .before .before .before .before .before .before .before .before .before .before .before .before .before .before in
-    let g = s .args in
-    sections (g .t) (g .conn .now) (g .xs .now) (c .before .before .before .before .before .before .before .before .before .before .before .before .test-space-cell .ensures) (c .before .before .before .before .before .before .before .before .before .before .corners .given .1) _ _ _ (sym (c .before .before .before .before .room .ensures) ∙ not-false _ (c .before .before .before .if1 .left))
+    can-section (cell (s .args .t) (s .args .conn .now) (s .args .xs .now)) (c .before .before .before .before .before .before .before .before .before .before .before .before .test-space-cell .ensures) (c .before .before .before .before .before .before .before .before .before .before .corners .given .1) _ _ _ (sym (c .before .before .before .before .room .ensures) ∙ not-false _ (c .before .before .before .if1 .left))
 
 returns-2 : tie.Need-returns-2
-returns-2 c =
+returns-2 c = 
     let s = c .before .before .before .before .before .before .before .before .before .before .before in
-    let g = s .args in
-    gave-refusal _ _ _ (cell-refused (c .before .before .before .test-space-cell .ensures) (planeBy (g .origin .now) (g .normal .now)) (work s) (c .before .k .given .1))
+    gave-refusal _ (cell-refused (c .before .before .before .test-space-cell .ensures) (placeIn Normal (through (s .args .origin .now) (s .args .normal .now))) (work s) (c .before .k .given .1))
 
 returns-3 : tie.Need-returns-3
-returns-3 c =
+returns-3 c = 
     let s = c .before .before .before .before .before .before .before .before .before .before .before .before .before .before .before in
-    gave-refusal _ _ _ (place-refused (c .before .before .before .before .before .before .before .test-space-cell .ensures) (c .before .before .before .before .before .corners .given .1) (work s) (c .before .before .before .place .ensures) (c .before .k2 .given .1))
+    gave-refusal _ (place-refused (c .before .before .before .before .before .before .before .test-space-cell .ensures) (c .before .before .before .before .before .corners .given .1) (work s) (sym (c .before .before .before .place .ensures) ∙ ap placing (c .before .k2 .given .1)))
 
 same-length : tie.Need-same-length
 same-length c = search needs
@@ -90,9 +83,9 @@ same-length-3 : tie.Need-same-length-3
 same-length-3 c = search needs
 
 returns-4 : tie.Need-returns-4
-returns-4 c =
+returns-4 c = 
     let s = c .before .before .before .before .before .before .before .before .before .before .before .before .before .before .before .before .before .before .before .before .before .before .before .before .before .before .before in
-    gave-section (at-work (c .before .before .before .before .before .before .before .before .before .before .before .before .before .before .before .before .before .before .before .test-space-cell .ensures) (c .before .before .before .before .before .before .before .before .before .before .before .before .before .before .before .before .before .corners .given .1) (work s) (c .before .before .before .before .before .before .before .before .before .before .before .before .before .before .before .place .ensures) (c .before .before .before .before .before .before .before .before .before .before .before .before .before .plane .given .1) (test-passed 7 _ _ (sym (c .before .before .before .before .before .before .before .before .before .before .before .room .ensures) ∙ not-false _ (c .before .before .before .before .before .before .before .before .before .before .if1 .left)))) (c .before .before .before .before .before .before .section-cell .ensures)
+    gave-section (at-work (c .before .before .before .before .before .before .before .before .before .before .before .before .before .before .before .before .before .before .before .test-space-cell .ensures) (c .before .before .before .before .before .before .before .before .before .before .before .before .before .before .before .before .before .corners .given .1) (work s) (sym (c .before .before .before .before .before .before .before .before .before .before .before .before .before .before .before .place .ensures) ∙ ap placing (c .before .before .before .before .before .before .before .before .before .before .before .before .before .plane .given .1)) (test-passed 7 _ _ (sym (c .before .before .before .before .before .before .before .before .before .before .before .room .ensures) ∙ not-false _ (c .before .before .before .before .before .before .before .before .before .before .if1 .left)))) (c .before .before .before .before .before .before .section-cell .ensures)
 
 pub section-cell-by-plane-spec : {M : Type 1} → statement M
 section-cell-by-plane-spec =

@@ -1,7 +1,7 @@
 -- `room` meets its contract. Assumes nothing.
 use borrow.Author.Tests.{le-leb, lt-leb}
-use Rattle.plane_cut.proofs.room.Statement.{statement}
-use Rattle.plane_cut.proofs.room.Tie as tie
+use Rattle.stitch.proofs.alone.room.Statement.{statement}
+use Rattle.stitch.proofs.alone.room.Tie as tie
 
 returns : tie.Need-returns
 returns c = simp (le-leb _ _ (c .before .if1 .taken), le-leb _ _ (c .if2 .taken))
