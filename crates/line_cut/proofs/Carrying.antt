@@ -12,7 +12,7 @@ use Rattle.vector.specs.Vector.{Vector, Frame}
 use Rattle.vector.specs.Rows.{Seg, noSeg, put, row, seg, segs}
 use Rattle.vector.proofs.Rows.{drop-later, segs-getD, segs-length, segs-put, segs-rest}
 use Rattle.clip.specs.Code.{Segments}
-use Rattle.cuts.specs.Entries.{onLine, segmentOnLine}
+use Rattle.line_cut.specs.LineCut.{onLine, segmentOnLine}
 
 -- h of i of the k segments of ps stand in zs, after the m that xs has
 pub record Carrying (h : Seg → Seg) (w v k : ℕ) (ps : List Float) (m : ℕ) (xs : List Float) (i : ℕ) (zs : List Float) : Type 0 where

@@ -16,7 +16,7 @@ use Rattle.clip.specs.Code.{Points, Segments}
 use Rattle.clip.proofs.Bound.{section-bound}
 use Rattle.stitch.specs.Walk.{pointAt}
 use Rattle.stitch.specs.Code.{cut}
-use Rattle.cuts.specs.Entries.{axis, loopSegments, loopsSegments, segmentOnLine}
+use Rattle.line_cut.specs.LineCut.{axis, loopSegments, loopsSegments, segmentOnLine}
 use Rattle.line_cut.specs.Code.{Loop, Loops, Rising, onLineOf}
 
 rising-most : (s : ℕ) (es : List ℕ) (m : ℕ) → Rising s es m → s ≤ m

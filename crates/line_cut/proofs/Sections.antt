@@ -15,7 +15,7 @@ use Rattle.vector.specs.Vector.{Vector, Frame}
 use Rattle.vector.specs.Rows.{Seg, endsFrom, rows}
 use Rattle.vector.proofs.Rows.{segs-length}
 use Rattle.cell.specs.Read.{Polygon}
-use Rattle.cell.proofs.Lists.{length-ends}
+use Rattle.rows.proofs.Lists.{length-ends}
 use Rattle.clip.specs.Cell.{atMost, cellSegments, corners, cutBy}
 use Rattle.clip.proofs.Bound.{cell-bound}
 use Rattle.clip.specs.Code.{Segments}
@@ -23,14 +23,15 @@ use Rattle.weld.specs.Weld.{Edge, Within, between, listed, listedEdges, weldedP
 use Rattle.weld.proofs.Edges.{listed-within, newer-unlisted}
 use Rattle.stitch.specs.Claim.{All, lastOr, sides, steps}
 use Rattle.stitch.specs.Code.{Below, cut, Gave}
-use Rattle.stitch.specs.Stitch.{Answer, stitched}
+use Rattle.stitch.specs.Stitch.{Answer, ruleOf, stitched}
 use Rattle.stitch.specs.declared.Stitched.{Stitched}
 use Rattle.stitch.proofs.Claim.{claim}
 use Rattle.stitch.proofs.Welded.{cut-ends}
-use Rattle.cuts.specs.Entries.{lineOfSection, loopSegments, loopsSegments, sectionOf, segmentOnLine, segmentsOn}
-use Rattle.cuts.proofs.Claims.{corners-in-all}
+use Rattle.cuts.specs.Cuts.{sectionOf, segmentsOn}
+use Rattle.cuts.proofs.Sizes.{corners-in-all}
+use Rattle.line_cut.specs.LineCut.{lineOfSection, loopSegments, loopsSegments, segmentOnLine}
 use Rattle.line_cut.specs.Code.{Loops, Rising, onLineOf}
-use Rattle.line_cut.specs.Claims.{LineBounded}
+use Rattle.line_cut.specs.LineCut.{LineBounded}
 use Rattle.line_cut.proofs.LoopsCut.{loop-bound}
 
 -- ---- the ends of lists in a row are running totals
@@ -88,7 +89,7 @@ all-at n (a ∷ l) h (suc k) j = all-at n l (h .1) k (omega arith)
 pub nodes-below : (tol : Float) (ss : List Seg) → Below (length (stitched tol ss .points)) (flatten (stitched tol ss .loops))
 nodes-below tol ss =
     let t = mul binary64 tol tol in
-    let c = claim t ss in
+    let c = claim (ruleOf tol) ss in
     let p : length (weldedPoints t ss) ≡ length (stitched tol ss .points) = ap length (sym (c .points-are)) in
     subst (λ n. Below n (flatten (stitched tol ss .loops))) p
     (all-at (length (weldedPoints t ss)) (flatten (stitched tol ss .loops))
@@ -149,7 +150,7 @@ line-bound f tol ps =
     let ss = cellSegments (cutBy f tol) f ps in
     let a = stitched tol ss in
     let b : length ss ≤ atMost (corners ps) = cell-bound (cutBy f tol) f ps in
-    let n = claim (mul binary64 tol tol) ss .few-nodes in
+    let n = claim (ruleOf tol) ss .few-nodes in
     omega (
       arith,
       length-map (loopsSegments tol (a .points) (a .loops)) (segmentOnLine f),
@@ -183,7 +184,7 @@ loops-ready f tol m ps {r = r} {nodes′ = nodes′} {ends′ = ends′} l h roo
     let a = stitched tol ss in
     let few = cell-bound (cutBy f tol) f ps in
     let all = corners-in-all ps in
-    let c = claim (mul binary64 tol tol) ss in
+    let c = claim (ruleOf tol) ss in
     let np = c .few-points in
     let nn = c .few-nodes in
     let pc = g .point-count in

@@ -1,19 +1,19 @@
--- What the clauses of the code cite. The entry itself is `lineCut` in entries/specs/Entries.antt. Definitions only.
+-- What the clauses of the code cite. Definitions only.
 use mathlib.Core.List.{List, [], _∷_, map}
 use Prim.Native.Nat.{ℕ, _*_, _≤_}
 use lib.ListN.{length}
 use lib.Ieee.{Float}
 use Rattle.vector.specs.Vector.{Vector, Frame}
 use Rattle.vector.specs.Rows.{Seg}
-use Rattle.cell.specs.Read.{cornersIn, Accepted}
+use Rattle.cell.specs.Read.{Cell, spaceCell, cornersOf, Accepted}
 use Rattle.clip.specs.Cell.{atMost}
 use Rattle.stitch.specs.Code.{Below, cut}
-use Rattle.cuts.specs.Entries.{loopsSegments, segmentOnLine}
+use Rattle.line_cut.specs.LineCut.{loopsSegments, segmentOnLine}
 
 -- what the work on an accepted cell needs: room for its segments
-pub record Lines (t : ℕ) (c : List ℕ) (xs numbers : List Float) : Type 0 where
-  pub accepted : Accepted t c xs
-  pub room : 14 * cornersIn t c xs ≤ length numbers
+pub record CanLine (k : Cell) (numbers : List Float) : Type 0 where
+  pub accepted : Accepted (spaceCell k)
+  pub room : 14 * cornersOf (spaceCell k) ≤ length numbers
 
 -- the segments on the line of loops whose nodes stand in a row and end at `ends`
 abbrev pub onLineOf : Frame → Float → List Vector → List ℕ → List ℕ → List Seg

@@ -1,2 +1,2 @@
+pub mod LineCut
 pub mod Code
-pub mod Claims

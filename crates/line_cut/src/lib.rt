@@ -3,26 +3,25 @@ ghost use mathlib.Core.Path.{_≡_};
 ghost use mathlib.Core.List.{_++_, map};
 ghost use Prim.Native.Nat.{_*_, _+_, _≤_};
 ghost use lib.ListN.{length};
-ghost use Rattle.vector.specs.Vector.{lineOf};
 ghost use Rattle.vector.specs.View.{frameOf, vec2, vec3};
 ghost use Rattle.vector.specs.Rows.{rows, segs};
-ghost use Rattle.cell.specs.Read.{polygonsIn};
+ghost use Rattle.cell.specs.Read.{cell, polygonsOf, spaceCell};
 ghost use Rattle.clip.specs.Cell.{atMost};
 ghost use Rattle.clip.specs.Code.{Points, Segments};
 ghost use Rattle.clip.specs.View.{cut2};
 ghost use Rattle.stitch.specs.Code.{Below};
 ghost use Rattle.stitch.specs.Walk.{pointAt};
-ghost use Rattle.cuts.specs.Outcome.{GaveLine};
-ghost use Rattle.cuts.specs.Entries.{axis, frameIn, lineCut, lineOfSection, loopSegments, onLine, placedBy, sectionOf};
-ghost use Rattle.cuts.specs.Entries.{segmentOnLine};
-ghost use Rattle.cuts.specs.Code.{Fixed, meaning, placing};
-ghost use Rattle.line_cut.specs.Code.{Lines, Loop, Loops, onLineOf};
+ghost use Rattle.cuts.specs.Cuts.{sectionOf, through};
+ghost use Rattle.cuts.specs.Lines.{GaveLine, lineTold};
+ghost use Rattle.cuts.specs.Code.{CellWithin};
+ghost use Rattle.line_cut.specs.LineCut.{axis, lineCut, lineOfSection, loopSegments, onLine, segmentOnLine};
+ghost use Rattle.line_cut.specs.Code.{CanLine, Loop, Loops, onLineOf};
 use cell::Reading;
-use cell::SpaceType;
+use cell::types::SpaceType;
 use clip::plane::Cut;
 use cuts::Line;
 use cuts::Placing;
-use vector::Placed;
+use cuts::Way;
 use vector::Plane;
 use vector::Vec2;
 use vector::Vec3;
@@ -41,13 +40,13 @@ pub fn slice_line_3d(
     numbers: &mut [f64],
 ) -> Line
     ensures { λ r. ⌜ GaveLine
-        (lineCut t (now (conn .entry)) (now (xs .entry)) (now (origin .entry)) (now (direction .entry)) tol
-        (length (now (numbers .entry))))
-        (meaning r) (now (numbers .entry)) (now (numbers .exit)) ⌝ }
+        (lineCut (cell t (now (conn .entry)) (now (xs .entry)))
+        (through (now (origin .entry)) (now (direction .entry))) tol (length (now (numbers .entry))))
+        (lineTold r) (now (numbers .entry)) (now (numbers .exit)) ⌝ }
 {
     match cell::test_space_cell(t, conn, xs) {
         Reading::Refused(k) => Line::Refused(k),
-        Reading::Cell { corners, faces: _ } => match place(origin, direction) {
+        Reading::Cell { corners, faces: _ } => match cuts::place(Way::Direction, origin, direction) {
             Placing::Refused(k) => Line::Refused(k),
             Placing::On(plane) => {
                 if 14 * corners > numbers.len() {
@@ -61,24 +60,25 @@ pub fn slice_line_3d(
 
 // The cut of an accepted cell by the line y = 0 of a plane. Gives how many segments there are.
 fn line_cell(t: u8, conn: &[u64], xs: &[f64], plane: Plane, tol: f64, numbers: &mut [f64]) -> usize
-    requires { ⌜ Lines t (now conn) (now xs) (now numbers) ⌝ }
+    requires { ⌜ CanLine (cell t (now conn) (now xs)) (now numbers) ⌝ }
     ensures { λ r. ⌜ Segments 3 (now (numbers .entry))
         (lineOfSection (frameOf plane) tol
-        (sectionOf (frameOf plane) tol (polygonsIn t (now (conn .entry)) (now (xs .entry)))))
+        (sectionOf (frameOf plane) tol (polygonsOf (spaceCell (cell t (now (conn .entry)) (now (xs .entry)))))))
         r (now (numbers .exit)) ⌝ }
 {
-    if t == SpaceType::PHED {
-        return line_phed(t, conn, xs, plane, tol, numbers);
+    if t != SpaceType::PHED {
+        return line_fixed(t, conn, xs, plane, tol, numbers);
     }
-    line_fixed(t, conn, xs, plane, tol, numbers)
+    line_large(t, conn, xs, plane, tol, numbers)
 }
 
-// The section of a polyhedron by the plane, and each of its loops cut by y = 0.
-fn line_phed(t: u8, conn: &[u64], xs: &[f64], plane: Plane, tol: f64, numbers: &mut [f64]) -> usize
-    requires { ⌜ Lines t (now conn) (now xs) (now numbers) ⌝ }
+// The section of any cell by the plane, and each of its loops cut by y = 0.
+fn line_large(t: u8, conn: &[u64], xs: &[f64], plane: Plane, tol: f64, numbers: &mut [f64]) -> usize
+    requires { ⌜ CanLine (cell t (now conn) (now xs)) (now numbers)
+        × CellWithin 256 85 256 (cell t (now conn) (now xs)) ⌝ }
     ensures { λ r. ⌜ Segments 3 (now (numbers .entry))
         (lineOfSection (frameOf plane) tol
-        (sectionOf (frameOf plane) tol (polygonsIn t (now (conn .entry)) (now (xs .entry)))))
+        (sectionOf (frameOf plane) tol (polygonsOf (spaceCell (cell t (now (conn .entry)) (now (xs .entry)))))))
         r (now (numbers .exit)) ⌝ }
 {
     let mut points = [0.0f64; 1536];
@@ -87,7 +87,7 @@ fn line_phed(t: u8, conn: &[u64], xs: &[f64], plane: Plane, tol: f64, numbers: &
     let mut polygon = [0.0f64; 768];
     let mut clipped = [0.0f64; 1152];
     let mut flat = [0.0f64; 2304];
-    let s = cuts::section_phed(t, conn, xs, plane, tol, &mut points, &mut nodes, &mut ends);
+    let s = cuts::section_large(t, conn, xs, plane, tol, &mut points, &mut nodes, &mut ends);
     let n = s.nodes;
     let f = s.loops;
     cut_loops(
@@ -104,12 +104,12 @@ fn line_phed(t: u8, conn: &[u64], xs: &[f64], plane: Plane, tol: f64, numbers: &
     )
 }
 
-// The same for every other type.
+// The same of a cell of every type but polyhedra.
 fn line_fixed(t: u8, conn: &[u64], xs: &[f64], plane: Plane, tol: f64, numbers: &mut [f64]) -> usize
-    requires { ⌜ Lines t (now conn) (now xs) (now numbers) × Fixed t ⌝ }
+    requires { ⌜ CanLine (cell t (now conn) (now xs)) (now numbers) × CellWithin 24 6 4 (cell t (now conn) (now xs)) ⌝ }
     ensures { λ r. ⌜ Segments 3 (now (numbers .entry))
         (lineOfSection (frameOf plane) tol
-        (sectionOf (frameOf plane) tol (polygonsIn t (now (conn .entry)) (now (xs .entry)))))
+        (sectionOf (frameOf plane) tol (polygonsOf (spaceCell (cell t (now (conn .entry)) (now (xs .entry)))))))
         r (now (numbers .exit)) ⌝ }
 {
     let mut points = [0.0f64; 144];
@@ -251,23 +251,6 @@ fn on_line(plane: Plane, a: Vec2) -> Vec3
     let o = plane.origin;
     let u = plane.u;
     o.plus(u.scaled(a.x))
-}
-
-// The plane that holds the line through origin with this direction, or refusal 5 or 6.
-fn place(origin: &[f64], direction: &[f64]) -> Placing
-    ensures { λ r. ⌜ placing r ≡ placedBy 3 (now (origin .entry)) (now (direction .entry))
-        (frameIn (lineOf (now (origin .entry)) (now (direction .entry)))) ⌝ }
-{
-    if origin.len() != 3 {
-        return Placing::Refused(5);
-    }
-    if direction.len() != 3 {
-        return Placing::Refused(5);
-    }
-    match Plane::of_line(vector::point3(origin, 0), vector::point3(direction, 0)) {
-        Placed::On(p) => Placing::On(p),
-        Placed::Nowhere => Placing::Refused(6),
-    }
 }
 
 // A node number as an index.

@@ -4,7 +4,7 @@ use mathlib.Core.List.{_++_, map}
 use native.Mathlib.Omega.{arith}
 use Rattle.vector.specs.Rows.{rows, segs}
 use Rattle.vector.specs.View.{frameOf}
-use Rattle.cuts.specs.Entries.{segmentOnLine}
+use Rattle.line_cut.specs.LineCut.{segmentOnLine}
 use Rattle.cuts.proofs.Answers.{segments-same}
 use Rattle.line_cut.proofs.LoopsCut.{loop-few, loop-segments}
 use borrow.Author.Needs.{needs}

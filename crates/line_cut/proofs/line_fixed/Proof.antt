@@ -3,10 +3,9 @@ use mathlib.Core.Path.{sym}
 use native.Mathlib.Omega.{arith}
 use lib.Seq.{length-take-le}
 use Rattle.vector.specs.View.{frameOf}
-use Rattle.cell.specs.Read.{polygonsIn}
-use Rattle.cuts.specs.Entries.{sectionOf}
+use Rattle.cell.specs.Read.{cell, polygonsOf, spaceCell}
+use Rattle.cuts.specs.Cuts.{sectionOf}
 use Rattle.cuts.proofs.Answers.{segments-same}
-use Rattle.cuts.proofs.Copying.{cell-few, most-fixed}
 use Rattle.line_cut.proofs.Sections.{ends-there, line-of, loops-ready, nodes-there}
 use borrow.Author.Needs.{needs}
 use Rattle.line_cut.proofs.line_fixed.Statement.{statement}
@@ -24,7 +23,7 @@ slice-aggregate-section-fixed-3 c = search needs
 section-fixed-requires : tie.Need-section-fixed-requires
 section-fixed-requires c κs =
     let s = c .before .before .before .before .before .before in
-    let n = cell-few (s .args .t) (s .args .conn .now) (s .args .xs .now) (s .pre .0 .accepted) (most-fixed (s .args .t) (s .pre .1)) in (
+    let n = s .pre .1 .corners in (
       record {
         accepted = s .pre .0 .accepted;
         roomy = record { for-numbers = omega arith; for-nodes = omega arith; for-ends = omega arith };
@@ -59,7 +58,7 @@ slice-aggregate-cut-loops-6 c = search needs
 cut-loops-requires : tie.Need-cut-loops-requires
 cut-loops-requires c κs =
     let s = c .before .before .before .before .before .before .before .before .before .before .before .before .before .before .before .before .before in
-    loops-ready (frameOf (s .args .plane)) (s .args .tol) 24 (polygonsIn (s .args .t) (s .args .conn .now) (s .args .xs .now)) (cell-few (s .args .t) (s .args .conn .now) (s .args .xs .now) (s .pre .0 .accepted) (most-fixed (s .args .t) (s .pre .1)))
+    loops-ready (frameOf (s .args .plane)) (s .args .tol) 24 (polygonsOf (spaceCell (cell (s .args .t) (s .args .conn .now) (s .args .xs .now)))) (s .pre .1 .corners)
     (record {
       few = omega arith;
       for-points = search needs;
@@ -75,7 +74,7 @@ returns : tie.Need-returns
 returns c =
     let g = c .before .before .before .before .before .before .before .before .before .before .before .before .before .before .before .before .before .before .before .before .before .before .before .args in
     let f = frameOf (g .plane) in
-    segments-same (line-of {a = sectionOf f (g .tol) (polygonsIn (g .t) (g .conn .now) (g .xs .now))} (c .before .before .before .before .before .before .before .before .before .before .before .before .before .before .before .before .section-fixed .ensures) f (g .tol)) (c .before .before .before .before .before .cut-loops .ensures)
+    segments-same (line-of {a = sectionOf f (g .tol) (polygonsOf (spaceCell (cell (g .t) (g .conn .now) (g .xs .now))))} (c .before .before .before .before .before .before .before .before .before .before .before .before .before .before .before .before .section-fixed .ensures) f (g .tol)) (c .before .before .before .before .before .cut-loops .ensures)
 
 pub line-fixed-spec : {M : Type 1} → statement M
 line-fixed-spec =
