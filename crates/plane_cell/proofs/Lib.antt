@@ -1,4 +1,3 @@
-pub mod LineBy
-pub mod Seam
-pub mod Reading
+pub mod Polygons
+pub mod Lines
 pub mod Claims

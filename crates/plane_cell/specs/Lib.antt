@@ -1,2 +1,2 @@
+pub mod PlaneCell
 pub mod Code
-pub mod Claims

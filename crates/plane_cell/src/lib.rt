@@ -1,21 +1,20 @@
 // A cell in the plane cut by a line, by its normal or by its direction. The answer is segments only.
 ghost use mathlib.Core.Path.{_≡_};
-ghost use Prim.Native.Nat.{_*_, _≤_};
+ghost use Prim.Native.Nat.{_≤_};
 ghost use lib.ListN.{length};
-ghost use Rattle.vector.specs.Vector.{normalAlong, unit};
 ghost use Rattle.vector.specs.View.{unit2, vec2};
-ghost use Rattle.vector.specs.Rows.{rows};
-ghost use Rattle.cell.specs.Read.{planeMost};
-ghost use Rattle.clip.specs.Cell.{atMost};
+ghost use Rattle.cell.specs.Read.{cell, planeCell, polygonsOf};
+ghost use Rattle.clip.specs.Code.{Segments};
 ghost use Rattle.clip.specs.View.{cut2};
-ghost use Rattle.cuts.specs.Outcome.{GaveLine, andThen, found};
-ghost use Rattle.cuts.specs.Entries.{byDirection, byNormal, normalIn};
-ghost use Rattle.cuts.specs.Code.{meaning};
-ghost use Rattle.plane_cell.specs.Code.{cellCut, cutting, lineBy, segmentsIn};
-use cell::PlaneType;
+ghost use Rattle.cuts.specs.Cuts.{through};
+ghost use Rattle.cuts.specs.Lines.{GaveLine, lineTold};
+ghost use Rattle.cuts.specs.declared.Way.the-variants as way;
+ghost use Rattle.plane_cell.specs.PlaneCell.{lineThrough, normalBy, planeCellCut, polygonSegments};
+ghost use Rattle.plane_cell.specs.Code.{CanCut, cutting};
 use cell::Reading;
 use clip::plane::Cut;
 use cuts::Line;
+use cuts::Way;
 use vector::Unit2;
 use vector::Vec2;
 
@@ -31,11 +30,11 @@ pub fn slice_2d(
     numbers: &mut [f64],
 ) -> Line
     ensures { λ r. ⌜ GaveLine
-        (byNormal t (now (conn .entry)) (now (xs .entry)) (now (origin .entry)) (now (normal .entry)) tol
-        (length (now (numbers .entry))))
-        (meaning r) (now (numbers .entry)) (now (numbers .exit)) ⌝ }
+        (planeCellCut way.Normal (cell t (now (conn .entry)) (now (xs .entry)))
+        (through (now (origin .entry)) (now (normal .entry))) tol (length (now (numbers .entry))))
+        (lineTold r) (now (numbers .entry)) (now (numbers .exit)) ⌝ }
 {
-    cut_cell(t, conn, xs, by_normal(origin, normal, tol), numbers)
+    cut_cell(Way::Normal, t, conn, xs, origin, normal, tol, numbers)
 }
 
 // The same with the line through origin that has this direction.
@@ -49,11 +48,41 @@ pub fn slice_line(
     numbers: &mut [f64],
 ) -> Line
     ensures { λ r. ⌜ GaveLine
-        (byDirection t (now (conn .entry)) (now (xs .entry)) (now (origin .entry)) (now (direction .entry)) tol
-        (length (now (numbers .entry))))
-        (meaning r) (now (numbers .entry)) (now (numbers .exit)) ⌝ }
+        (planeCellCut way.Direction (cell t (now (conn .entry)) (now (xs .entry)))
+        (through (now (origin .entry)) (now (direction .entry))) tol (length (now (numbers .entry))))
+        (lineTold r) (now (numbers .entry)) (now (numbers .exit)) ⌝ }
 {
-    cut_cell(t, conn, xs, by_direction(origin, direction, tol), numbers)
+    cut_cell(Way::Direction, t, conn, xs, origin, direction, tol, numbers)
+}
+
+// Cuts a single cell in the plane: it is tested, the line placed, the room looked at, and then nothing is refused.
+fn cut_cell(
+    by: Way,
+    t: u8,
+    conn: &[u64],
+    xs: &[f64],
+    origin: &[f64],
+    vector: &[f64],
+    tol: f64,
+    numbers: &mut [f64],
+) -> Line
+    ensures { λ r. ⌜ GaveLine
+        (planeCellCut by (cell t (now (conn .entry)) (now (xs .entry)))
+        (through (now (origin .entry)) (now (vector .entry))) tol (length (now (numbers .entry))))
+        (lineTold r) (now (numbers .entry)) (now (numbers .exit)) ⌝ }
+{
+    match cell::test_plane_cell(t, conn, xs) {
+        Reading::Refused(k) => Line::Refused(k),
+        Reading::Cell { corners, faces: _ } => match place(by, origin, vector, tol) {
+            Cutting::Refused(k) => Line::Refused(k),
+            Cutting::By(cut) => {
+                if 6 * corners > numbers.len() {
+                    return Line::Refused(7);
+                }
+                Line::Cut(line_cell(t, conn, xs, corners, cut, numbers))
+            }
+        },
+    }
 }
 
 // The number of a refusal, or the line that cuts.
@@ -62,48 +91,19 @@ enum Cutting {
     By(Cut),
 }
 
-// The line through origin with this normal, or refusal 5 or 6.
-fn by_normal(origin: &[f64], normal: &[f64], tol: f64) -> Cutting
-    ensures { λ r. ⌜ cutting r ≡ lineBy unit (now (origin .entry)) (now (normal .entry)) tol ⌝ }
+// The line through origin with this normal or direction, or refusal 5 or 6.
+fn place(by: Way, origin: &[f64], vector: &[f64], tol: f64) -> Cutting
+    ensures { λ r. ⌜ cutting r ≡ lineThrough by (through (now (origin .entry)) (now (vector .entry))) tol ⌝ }
 {
     if origin.len() != 2 {
         return Cutting::Refused(5);
     }
-    if normal.len() != 2 {
+    if vector.len() != 2 {
         return Cutting::Refused(5);
     }
-    with_normal(
-        vector::point2(origin, 0),
-        vector::point2(normal, 0).unit(),
-        tol,
-    )
-}
-
-// The line through origin with this direction, or refusal 5 or 6.
-fn by_direction(origin: &[f64], direction: &[f64], tol: f64) -> Cutting
-    ensures { λ r. ⌜ cutting r ≡ lineBy normalAlong (now (origin .entry)) (now (direction .entry)) tol ⌝ }
-{
-    if origin.len() != 2 {
-        return Cutting::Refused(5);
-    }
-    if direction.len() != 2 {
-        return Cutting::Refused(5);
-    }
-    with_normal(
-        vector::point2(origin, 0),
-        vector::point2(direction, 0).normal_along(),
-        tol,
-    )
-}
-
-// The line through origin with the unit normal that was found, or refusal 6.
-fn with_normal(origin: Vec2, normal: Unit2, tol: f64) -> Cutting
-    ensures { λ r. ⌜ cutting r ≡ andThen (normalIn (unit2 normal))
-        (λ u. found (record { origin = vec2 origin; normal = u; tol = tol })) ⌝ }
-{
-    match normal {
+    match normal_by(by, vector::point2(vector, 0)) {
         Unit2::Along(n) => Cutting::By(Cut {
-            origin: origin,
+            origin: vector::point2(origin, 0),
             normal: n,
             tol: tol,
         }),
@@ -111,73 +111,51 @@ fn with_normal(origin: Vec2, normal: Unit2, tol: f64) -> Cutting
     }
 }
 
-// Cuts a single cell in the plane with a line that is placed already. A polygon can have 256 corners, every other type
-// at most four.
-fn cut_cell(t: u8, conn: &[u64], xs: &[f64], by: Cutting, numbers: &mut [f64]) -> Line
-    ensures { λ r. ⌜ GaveLine
-        (cellCut (cutting by) t (now (conn .entry)) (now (xs .entry)) (length (now (numbers .entry))))
-        (meaning r) (now (numbers .entry)) (now (numbers .exit)) ⌝ }
-{
-    if t == PlaneType::PGON {
-        let mut coords = [0.0f64; 512];
-        let mut points = [0.0f64; 768];
-        return cut_within(t, conn, xs, by, &mut coords, &mut points, numbers);
-    }
-    let mut coords = [0.0f64; 8];
-    let mut points = [0.0f64; 12];
-    cut_within(t, conn, xs, by, &mut coords, &mut points, numbers)
-}
-
-// Refusals 1 to 4, then the cut; the scratch slices are large enough for the type.
-fn cut_within(
-    t: u8,
-    conn: &[u64],
-    xs: &[f64],
-    by: Cutting,
-    coords: &mut [f64],
-    points: &mut [f64],
-    numbers: &mut [f64],
-) -> Line
-    requires { ⌜ (2 * planeMost t ≤ length (now coords)) × (2 * atMost (planeMost t) ≤ length (now points)) ⌝ }
-    ensures { λ r. ⌜ GaveLine
-        (cellCut (cutting by) t (now (conn .entry)) (now (xs .entry)) (length (now (numbers .entry))))
-        (meaning r) (now (numbers .entry)) (now (numbers .exit)) ⌝ }
-{
-    match cell::read_plane_cell(t, conn, xs, coords) {
-        Reading::Refused(k) => Line::Refused(k),
-        Reading::Cell { corners, faces } => cut_polygon(by, corners, coords, points, numbers),
-    }
-}
-
-// Refusals 5 and 6, then the cut of a polygon of n corners.
-fn cut_polygon(
-    by: Cutting,
-    n: usize,
-    coords: &[f64],
-    points: &mut [f64],
-    numbers: &mut [f64],
-) -> Line
-    requires { ⌜ (n ≤ 256) × (2 * n ≤ length (now coords)) × (2 * atMost n ≤ length (now points)) ⌝ }
-    ensures { λ r. ⌜ GaveLine
-        (andThen (cutting by)
-        (segmentsIn n (length (now (numbers .entry))) (rows 2 n (now (coords .entry)))))
-        (meaning r) (now (numbers .entry)) (now (numbers .exit)) ⌝ }
+// The unit normal of a line by its normal or its direction.
+fn normal_by(by: Way, vector: Vec2) -> Unit2
+    ensures { λ r. ⌜ unit2 r ≡ normalBy by (vec2 vector) ⌝ }
 {
     match by {
-        Cutting::Refused(k) => Line::Refused(k),
-        Cutting::By(cut) => cut_by(cut, n, coords, points, numbers),
+        Way::Normal => vector.unit(),
+        Way::Direction => vector.normal_along(),
     }
 }
 
-// Refusal 7, then the cut by a line.
-fn cut_by(cut: Cut, n: usize, coords: &[f64], points: &mut [f64], numbers: &mut [f64]) -> Line
-    requires { ⌜ (n ≤ 256) × (2 * n ≤ length (now coords)) × (2 * atMost n ≤ length (now points)) ⌝ }
-    ensures { λ r. ⌜ GaveLine
-        (segmentsIn n (length (now (numbers .entry))) (rows 2 n (now (coords .entry))) (cut2 cut))
-        (meaning r) (now (numbers .entry)) (now (numbers .exit)) ⌝ }
+// The segments of an accepted cell of n corners on a line. Gives how many there are. Scratch comes in two tiers.
+fn line_cell(t: u8, conn: &[u64], xs: &[f64], n: usize, cut: Cut, numbers: &mut [f64]) -> usize
+    requires { ⌜ CanCut (cell t (now conn) (now xs)) n (now numbers) ⌝ }
+    ensures { λ r. ⌜ Segments 2 (now (numbers .entry))
+        (polygonSegments (cut2 cut) (polygonsOf (planeCell (cell t (now (conn .entry)) (now (xs .entry))))))
+        r (now (numbers .exit)) ⌝ }
 {
-    if 6 * n > numbers.len() {
-        return Line::Refused(7);
+    if n <= 4 {
+        return line_small(t, conn, xs, n, cut, numbers);
     }
-    Line::Cut(clip::plane::plane_section_segments(coords, n, cut, points, numbers))
+    line_large(t, conn, xs, n, cut, numbers)
+}
+
+// Of at most four corners.
+fn line_small(t: u8, conn: &[u64], xs: &[f64], n: usize, cut: Cut, numbers: &mut [f64]) -> usize
+    requires { ⌜ CanCut (cell t (now conn) (now xs)) n (now numbers) × (n ≤ 4) ⌝ }
+    ensures { λ r. ⌜ Segments 2 (now (numbers .entry))
+        (polygonSegments (cut2 cut) (polygonsOf (planeCell (cell t (now (conn .entry)) (now (xs .entry))))))
+        r (now (numbers .exit)) ⌝ }
+{
+    let mut coords = [0.0f64; 8];
+    let mut points = [0.0f64; 12];
+    cell::copy_plane_cell(t, conn, xs, &mut coords);
+    clip::plane::plane_section_segments(&coords, n, cut, &mut points, numbers)
+}
+
+// Of at most 256.
+fn line_large(t: u8, conn: &[u64], xs: &[f64], n: usize, cut: Cut, numbers: &mut [f64]) -> usize
+    requires { ⌜ CanCut (cell t (now conn) (now xs)) n (now numbers) × (n ≤ 256) ⌝ }
+    ensures { λ r. ⌜ Segments 2 (now (numbers .entry))
+        (polygonSegments (cut2 cut) (polygonsOf (planeCell (cell t (now (conn .entry)) (now (xs .entry))))))
+        r (now (numbers .exit)) ⌝ }
+{
+    let mut coords = [0.0f64; 512];
+    let mut points = [0.0f64; 768];
+    cell::copy_plane_cell(t, conn, xs, &mut coords);
+    clip::plane::plane_section_segments(&coords, n, cut, &mut points, numbers)
 }

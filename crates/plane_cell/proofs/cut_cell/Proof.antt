@@ -1,51 +1,89 @@
--- `cut_cell` meets its contract. Assumes nothing.
+-- `cut_cell` meets its contract: the cell is tested, the line placed, the room looked at, and then nothing is refused.
+-- Assumes nothing.
+use mathlib.Core.Path.{_∙_, ap, sym}
 use native.Mathlib.Omega.{arith}
-use Rattle.plane_cell.proofs.Reading.{most-4}
+use borrow.Author.Tests.{le-leb, lt-leb}
+use lib.ListN.{length}
+use Rattle.rows.proofs.Outcomes.{test-failed, test-passed}
+use Rattle.cell.specs.Read.{cell}
+use Rattle.clip.specs.View.{cut2}
+use Rattle.cuts.specs.Cuts.{through}
+use Rattle.cuts.proofs.Answers.{line-gave, line-refused}
+use Rattle.cuts.proofs.Cutting.{at-work, cell-refused, corners-told, place-refused, was-accepted}
+use Rattle.plane_cell.specs.PlaneCell.{lineThrough, segmentsIn}
+use Rattle.plane_cell.specs.Code.{cutting}
+use Rattle.plane_cell.proofs.Polygons.{few-corners, segments-fit}
 use borrow.Author.Needs.{needs}
 use Rattle.plane_cell.proofs.cut_cell.Statement.{statement}
 use Rattle.plane_cell.proofs.cut_cell.Tie as tie
 
-slice-aggregate-cut-within : tie.Need-slice-aggregate-cut-within
-slice-aggregate-cut-within c = search needs
+test-plane-cell-requires : tie.Need-test-plane-cell-requires
+test-plane-cell-requires c κs = search needs
 
-slice-aggregate-cut-within-2 : tie.Need-slice-aggregate-cut-within-2
-slice-aggregate-cut-within-2 c = search needs
+enum-known-k : tie.Need-enum-known-k
+enum-known-k c = search needs
 
-cut-within-requires : tie.Need-cut-within-requires
-cut-within-requires c κs = rw (c .before .before .before .if1 .taken) (omega arith, omega arith)
+enum-known-corners : tie.Need-enum-known-corners
+enum-known-corners c = search needs
 
-same-length : tie.Need-same-length
-same-length c = c .before .before .before .before .cut-within .kept .1 .1 .1 .1 .1 .1 .0
+place-requires : tie.Need-place-requires
+place-requires c κs = search needs
+
+enum-known-k-2 : tie.Need-enum-known-k-2
+enum-known-k-2 c = search needs
+
+enum-known-cut : tie.Need-enum-known-cut
+enum-known-cut c = search needs
+
+mul-if1 : tie.Need-mul-if1
+mul-if1 c = let s = c .before .before .before .before .before .before .before .before .before .before .before .before .before in omega (arith, corners-told (c .before .before .before .before .before .before .before .test-plane-cell .ensures) (c .before .before .before .before .before .corners .given .1), few-corners (cell (s .args .t) (s .args .conn .now) (s .args .xs .now)) _ (was-accepted (c .before .before .before .before .before .before .before .test-plane-cell .ensures) (c .before .before .before .before .before .corners .given .1)))
 
 returns : tie.Need-returns
-returns c = c .before .before .before .before .cut-within .ensures
+returns c = 
+    let s = c .before .before .before .before .before .before .before .before .before .before .before .before .before .before in
+    line-refused _ (at-work (c .before .before .before .before .before .before .before .before .test-plane-cell .ensures) (c .before .before .before .before .before .before .corners .given .1) (segmentsIn (length (s .args .numbers .now))) (sym (c .before .before .before .before .place .ensures) ∙ ap cutting (c .before .before .cut .given .1)) (test-failed 7 _ _ (lt-leb _ _ (c .if1 .taken))))
 
-slice-aggregate-cut-within-3 : tie.Need-slice-aggregate-cut-within-3
-slice-aggregate-cut-within-3 c = search needs
-
-slice-aggregate-cut-within-4 : tie.Need-slice-aggregate-cut-within-4
-slice-aggregate-cut-within-4 c = search needs
-
-cut-within-requires-2 : tie.Need-cut-within-requires-2
-cut-within-requires-2 c κs = rw (most-4 _ (c .before .before .before .if1 .left)) (omega arith, omega arith)
-
-same-length-2 : tie.Need-same-length-2
-same-length-2 c = c .before .before .before .before .cut-within2 .kept .1 .1 .1 .1 .1 .1 .0
+line-cell-requires : tie.Need-line-cell-requires
+line-cell-requires c κs = 
+    record {
+      accepted = was-accepted (c .before .before .before .before .before .before .before .before .before .test-plane-cell .ensures) (c .before .before .before .before .before .before .before .corners .given .1);
+      corners = corners-told (c .before .before .before .before .before .before .before .before .before .test-plane-cell .ensures) (c .before .before .before .before .before .before .before .corners .given .1);
+      room = c .before .if1 .left;
+    }
 
 returns-2 : tie.Need-returns-2
-returns-2 c = c .before .before .before .before .cut-within2 .ensures
+returns-2 c = 
+    let s = c .before .before .before .before .before .before .before .before .before in
+    line-refused _ (cell-refused (c .before .before .before .test-plane-cell .ensures) (lineThrough (s .args .by) (through (s .args .origin .now) (s .args .vector .now)) (s .args .tol)) (segmentsIn (length (s .args .numbers .now))) (c .before .k .given .1))
+
+returns-3 : tie.Need-returns-3
+returns-3 c = 
+    let s = c .before .before .before .before .before .before .before .before .before .before .before .before .before in
+    line-refused _ (place-refused (c .before .before .before .before .before .before .before .test-plane-cell .ensures) (c .before .before .before .before .before .corners .given .1) (segmentsIn (length (s .args .numbers .now))) (sym (c .before .before .before .place .ensures) ∙ ap cutting (c .before .k2 .given .1)))
+
+same-length : tie.Need-same-length
+same-length c = search needs
+
+returns-4 : tie.Need-returns-4
+returns-4 c = 
+    let s = c .before .before .before .before .before .before .before .before .before .before .before .before .before .before .before .before .before .before in
+    line-gave {w = 2} (at-work (c .before .before .before .before .before .before .before .before .before .before .before .before .test-plane-cell .ensures) (c .before .before .before .before .before .before .before .before .before .before .corners .given .1) (segmentsIn (length (s .args .numbers .now))) (sym (c .before .before .before .before .before .before .before .before .place .ensures) ∙ ap cutting (c .before .before .before .before .before .before .cut .given .1)) (test-passed 7 _ _ (le-leb _ _ (c .before .before .before .before .if1 .left)))) (c .before .before .line-cell .ensures) (search needs)
+    (segments-fit (cell (s .args .t) (s .args .conn .now) (s .args .xs .now)) (was-accepted (c .before .before .before .before .before .before .before .before .before .before .before .before .test-plane-cell .ensures) (c .before .before .before .before .before .before .before .before .before .before .corners .given .1)) (cut2 (c .before .before .before .before .before .before .cut .given .0 .0)) (omega (arith, corners-told (c .before .before .before .before .before .before .before .before .before .before .before .before .test-plane-cell .ensures) (c .before .before .before .before .before .before .before .before .before .before .corners .given .1), c .before .before .before .before .if1 .left)) (c .before .before .line-cell .ensures))
 
 pub cut-cell-spec : {M : Type 1} → statement M
 cut-cell-spec =
     tie.close
     (tie.spec
-    slice-aggregate-cut-within
-    slice-aggregate-cut-within-2
-    cut-within-requires
-    same-length
+    test-plane-cell-requires
+    enum-known-k
+    enum-known-corners
+    place-requires
+    enum-known-k-2
+    enum-known-cut
+    mul-if1
     returns
-    slice-aggregate-cut-within-3
-    slice-aggregate-cut-within-4
-    cut-within-requires-2
-    same-length-2
-    returns-2)
+    line-cell-requires
+    returns-2
+    returns-3
+    same-length
+    returns-4)
