@@ -7,12 +7,14 @@ use lib.Dec.{eqb, ltb}
 use lib.Ieee.{Float, nan, le}
 use lib.ListN.{length, getD, drop}
 use Rattle.vector.specs.Number.{f0, f1, minusOne}
-use Rattle.vector.specs.Vector.{Vector}
+use Rattle.vector.specs.Vector.{Vector, Frame}
 use Rattle.vector.specs.Rows.{Seg, row, rows, segs}
+use Rattle.clip.specs.declared.Clipped.{Clipped}
+use Rattle.clip.specs.declared.Found.{Found}
 use Rattle.clip.specs.declared.Side.{Side}
 use Rattle.clip.specs.declared.Side.the-variants.{Above, Below, Neither}
-use Rattle.clip.specs.Clip.{Cut, away, bySide, planeSectionSegments}
-use Rattle.clip.specs.Cell.{atMost}
+use Rattle.clip.specs.Clip.{Cut, away, bySide, clipEdge, clipSides, edges, planeIntersection, planeSectionSegments, pushAll}
+use Rattle.clip.specs.Cell.{atMost, cellSegments}
 
 -- the place after i in a ring of n
 abbrev pub nextOf : ℕ → ℕ → ℕ
@@ -27,6 +29,27 @@ pub record Points (w : ℕ) (xs : List Float) (k : List Vector) (r : ℕ) (zs : 
 pub record Segments (w : ℕ) (xs : List Float) (k : List Seg) (r : ℕ) (zs : List Float) : Type 0 where
   pub are : segs w r zs ≡ k
   pub rest : drop (w * (2 * r)) zs ≡ drop (w * (2 * r)) xs
+
+-- The edge from a to b, whose ends have the signed distances da and db, was found to cross the cut at p.
+pub record Crossed (c : Cut) (a : Vector) (da : Float) (b : Vector) (db : Float) (p : Vector) : Type 0 where
+  pub point : p ≡ planeIntersection c a da b db
+
+-- The same edge was clipped, and gives the points ps.
+pub record EdgeClipped (c : Cut) (a : Vector) (da : Float) (b : Vector) (db : Float) (ps : List Vector) : Type 0 where
+  pub points : ps ≡ clipEdge c a da b db
+
+-- The polygon ps was clipped with the sign s, and its points are in the buffer xs, which has become zs; t is tol times tol.
+pub record PolygonClipped (w : ℕ) (c : Cut) (s t : Float) (ps : List Vector) (xs : List Float) (r : Clipped) (zs : List Float) : Type 0
+  where
+    pub points : Points w xs (pushAll t [] (clipSides c s (edges ps))) (r .points) zs
+
+-- The polygon ps was cut, and its segments are in the buffer xs, which has become zs.
+pub record FaceCut (w : ℕ) (c : Cut) (ps : List Vector) (xs : List Float) (r : Found) (zs : List Float) : Type 0 where
+  pub segments : Segments w xs (planeSectionSegments c ps) (r .segments) zs
+
+-- A cell with the faces fs was cut, and its segments in the plane's own coordinates are in the buffer xs, which has become zs.
+pub record CellCut (c : Cut) (f : Frame) (fs : List (List Vector)) (xs : List Float) (r : Found) (zs : List Float) : Type 0 where
+  pub segments : Segments 2 xs (cellSegments c f fs) (r .segments) zs
 
 -- the last n numbers of xs are the distances of the first n points of ps, w numbers each
 abbrev pub Distances : Cut → ℕ → ℕ → List Float → List Float → Type 0

@@ -71,7 +71,8 @@ fn space_segments(
         normal: point3(placed, 1),
         tol: tol,
     };
-    clip::space::plane_section_segments(poly, n, cut, points, out)
+    let found = clip::space::plane_section_segments(poly, n, cut, points, out);
+    found.segments
 }
 
 // The same in the plane.
@@ -122,7 +123,8 @@ fn plane_segments(
         normal: point2(placed, 1),
         tol: tol,
     };
-    clip::plane::plane_section_segments(poly, n, cut, points, out)
+    let found = clip::plane::plane_section_segments(poly, n, cut, points, out);
+    found.segments
 }
 
 // What stitching gives, and whether the lengths fitted.
