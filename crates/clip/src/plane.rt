@@ -1,4 +1,4 @@
-// Polygons in the plane, cut by a line: the functions of `space`, one width less.
+// Polygons in the plane, cut by a line. Written from space.rt by tools/widths: change that, and run it.
 ghost use mathlib.Core.Path.{_≡_};
 ghost use mathlib.Core.List.{[]};
 ghost use Prim.Native.Nat.{_+_, _*_, _<_, _≤_};

@@ -1,4 +1,4 @@
--- `clip::plane::clip_edge` meets its contract. Assumes nothing.
+-- `clip::plane::clip_edge` meets its contract. Written from space's by tools/widths. Assumes nothing.
 use mathlib.Core.Path.{ap}
 use mathlib.Core.List.{[], _∷_}
 use borrow.Author.Needs.{needs}

@@ -1,4 +1,4 @@
--- `clip::plane::clip_polygon` meets its contract. Assumes nothing.
+-- `clip::plane::clip_polygon` meets its contract. Written from space's by tools/widths. Assumes nothing.
 -- The invariant: the points kept, with those of the edges left, make the clipped points.
 use mathlib.Core.Path.{ap, sym, _∙_}
 use Prim.Native.Nat.{_-_}

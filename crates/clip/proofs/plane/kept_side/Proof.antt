@@ -1,4 +1,4 @@
--- `clip::plane::kept_side` meets its contract. Assumes nothing.
+-- `clip::plane::kept_side` meets its contract. Written from space's by tools/widths. Assumes nothing.
 -- The invariant: the corners passed are counted, and their distances written.
 use mathlib.Core.Path.{refl}
 use Prim.Native.Nat.{_-_}

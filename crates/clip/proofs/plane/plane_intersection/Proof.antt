@@ -1,4 +1,4 @@
--- `clip::plane::plane_intersection` meets its contract. Assumes nothing.
+-- `clip::plane::plane_intersection` meets its contract. Written from space's by tools/widths. Assumes nothing.
 use borrow.Author.Needs.{needs}
 use Rattle.vector.specs.View.{vec2}
 use Rattle.clip.proofs.Clipping.{crossing}

@@ -1,4 +1,4 @@
--- `clip::plane::plane_section_segments` meets its contract. Assumes nothing.
+-- `clip::plane::plane_section_segments` meets its contract. Written from space's by tools/widths. Assumes nothing.
 use mathlib.Core.Path.{_∙_}
 use native.Mathlib.Omega.{arith}
 use lib.Ieee.{ofBits}
