@@ -13,7 +13,7 @@ use Rattle.vector.specs.Rows.{Seg, rows}
 use Rattle.vector.proofs.Rows.{rows-length, segs-length}
 use Rattle.clip.specs.declared.Side.{Side}
 use Rattle.clip.specs.declared.Side.the-variants.{Above, Below, Neither}
-use Rattle.clip.specs.Clip.{Cut, bySide, clipped, edges, planeSectionSegments, pushSegments, sectionOn, tol2, withoutClosing}
+use Rattle.clip.specs.Clip.{Cut, bySide, clipped, edges, planeSectionSegments, pushSegments, sectionOn, tolSquared, withoutClosing}
 use Rattle.clip.specs.Cell.{atMost}
 use Rattle.clip.specs.Code.{Points, Segments, Sided, signOf}
 use Rattle.clip.proofs.Bound.{section-bound}
@@ -26,14 +26,14 @@ segments-as e h = rw e h
 
 -- ---- with the sign s: the m points of zs are the clipped ones, the first r are left without the closing duplicate
 module _ {w : ℕ} (c : Cut) (s : Float) (n : ℕ) (ps : List Float) (r : ℕ) {xs : List Float} {m : ℕ} {zs : List Float}
-    (h : Points w xs (clipped c s (rows w n ps)) m zs) (e : rows w r zs ≡ withoutClosing (tol2 c) (rows w m zs)) where
-  left : rows w r zs ≡ withoutClosing (tol2 c) (clipped c s (rows w n ps))
-  left = e ∙ ap (withoutClosing (tol2 c)) (h .are)
+    (h : Points w xs (clipped c s (rows w n ps)) m zs) (e : rows w r zs ≡ withoutClosing (tolSquared c) (rows w m zs)) where
+  left : rows w r zs ≡ withoutClosing (tolSquared c) (clipped c s (rows w n ps))
+  left = e ∙ ap (withoutClosing (tolSquared c)) (h .are)
 
   pub few-points : r < 2 → (ys : List Float) → Segments w ys (sectionOn c s (rows w n ps)) 0 ys
   few-points q ys = no-segments w ys (rw (← left, rows-length w r zs, lt-ltb r 2 q))
 
-  pub many-points : 2 ≤ r → {o : ℕ} {ys us : List Float} → Segments w ys (pushSegments c (tol2 c) [] (edges (rows w r zs))) o us
+  pub many-points : 2 ≤ r → {o : ℕ} {ys us : List Float} → Segments w ys (pushSegments c (tolSquared c) [] (edges (rows w r zs))) o us
       → Segments w ys (sectionOn c s (rows w n ps)) o us
   many-points q = segments-as (rw (← left, rows-length w r zs, le-ltb r 2 q))
 

@@ -38,10 +38,10 @@ pub record Crossed (c : Cut) (a : Vector) (da : Float) (b : Vector) (db : Float)
 pub record EdgeClipped (c : Cut) (a : Vector) (da : Float) (b : Vector) (db : Float) (ps : List Vector) : Type 0 where
   pub points : ps ≡ clipEdge c a da b db
 
--- The polygon ps was clipped with the sign s, and its points are in the buffer xs, which has become zs; t is tol times tol.
-pub record PolygonClipped (w : ℕ) (c : Cut) (s t : Float) (ps : List Vector) (xs : List Float) (r : Clipped) (zs : List Float) : Type 0
+-- The polygon ps was clipped with the sign s, and its points are in the buffer xs, which has become zs; tol2 is tol times tol.
+pub record PolygonClipped (w : ℕ) (c : Cut) (s tol2 : Float) (ps : List Vector) (xs : List Float) (r : Clipped) (zs : List Float) : Type 0
   where
-    pub points : Points w xs (pushAll t [] (clipSides c s (edges ps))) (r .points) zs
+    pub points : Points w xs (pushAll tol2 [] (clipSides c s (edges ps))) (r .points) zs
 
 -- The polygon ps was cut, and its segments are in the buffer xs, which has become zs.
 pub record FaceCut (w : ℕ) (c : Cut) (ps : List Vector) (xs : List Float) (r : Found) (zs : List Float) : Type 0 where

@@ -135,7 +135,7 @@ fn both_at_most(x: f64, y: f64, t: f64) -> bool
 }
 
 // k, and one more if the test holds.
-fn counted(k: usize, test: bool) -> usize
+fn count_if(k: usize, test: bool) -> usize
     requires { ⌜ k + 1 ≤ 18446744073709551615 ⌝ }
     ensures { λ r. ⌜ r ≡ k + cond test 1 0 ⌝ }
 {

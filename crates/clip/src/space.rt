@@ -13,7 +13,7 @@ use crate::Clipped;
 use crate::Found;
 use crate::Side;
 use crate::both_at_most;
-use crate::counted;
+use crate::count_if;
 use crate::next_of;
 use crate::ratio;
 use crate::side_of;
@@ -94,8 +94,8 @@ fn kept_side(poly: &[f64], n: usize, cut: Cut, points: &mut [f64]) -> Side
     while i < n {
         let d = point3(poly, i).distance(cut.origin, cut.normal);
         points[at + i] = d;
-        above = counted(above, d > cut.tol);
-        below = counted(below, d < -cut.tol);
+        above = count_if(above, d > cut.tol);
+        below = count_if(below, d < -cut.tol);
         i += 1;
     }
     side_of(above, below, n, cut.tol)
