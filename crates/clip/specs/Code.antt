@@ -1,7 +1,8 @@
 -- What the clauses of the code say of slices and indices. Definitions only.
 use mathlib.Core.Path.{_≡_}
 use mathlib.Core.List.{List, [], _∷_}
-use mathlib.Core.Bool.{cond, _&&_, _||_}
+use mathlib.Core.Bool.{true, cond, _&&_, _||_}
+use mathlib.Core.Logic.{_⊎_}
 use Prim.Native.Nat.{ℕ, _+_, _-_, _*_, _≤_, _<_}
 use lib.Dec.{eqb, ltb}
 use lib.Ieee.{Float, nan, le}
@@ -13,8 +14,9 @@ use Rattle.clip.specs.declared.Clipped.{Clipped}
 use Rattle.clip.specs.declared.Found.{Found}
 use Rattle.clip.specs.declared.Side.{Side}
 use Rattle.clip.specs.declared.Side.the-variants.{Above, Below, Neither}
-use Rattle.clip.specs.Clip.{Cut, away, bySide, clipEdge, clipSides, edges, planeIntersection, planeSectionSegments, pushAll}
+use Rattle.clip.specs.Clip.{Cut, away, clipEdge, clipSides, edges, keptSide, planeIntersection, planeSectionSegments, pushAll}
 use Rattle.clip.specs.Cell.{atMost, cellSegments}
+use Rattle.clip.specs.Clear.{Each, Higher, Lower}
 
 -- the place after i in a ring of n
 abbrev pub nextOf : ℕ → ℕ → ℕ
@@ -55,9 +57,15 @@ pub record CellCut (c : Cut) (f : Frame) (fs : List (List Vector)) (xs : List Fl
 abbrev pub Distances : Cut → ℕ → ℕ → List Float → List Float → Type 0
 Distances c w n ps xs = (k : ℕ) → k < n → getD xs (length xs - n + k) nan ≡ away c (row w ps k)
 
--- The side g is one whose segments are the section of the polygon of the first n points of ps, and xs ends with their distances.
+-- A face is passed over: tol is not negative, and all corners are above it, or all below -tol.
+pub record PassedOver (c : Cut) (ps : List Vector) : Type 0 where
+  pub not-negative : le f0 (c .tol) ≡ true
+  pub beyond : Each (Higher c) ps ⊎ Each (Lower c) ps
+
+-- The side g is the one that is kept of the polygon of the first n points of ps, or neither where the face is passed over; and xs ends
+-- with the distances of the points.
 pub record Sided (c : Cut) (w n : ℕ) (ps : List Float) (g : Side) (xs : List Float) : Type 0 where
-  pub section : planeSectionSegments c (rows w n ps) ≡ bySide c (rows w n ps) g
+  pub side : (g ≡ keptSide c (rows w n ps)) ⊎ ((g ≡ Neither) × PassedOver c (rows w n ps))
   pub distances : Distances c w n ps xs
 
 -- the side to clip to, if so many of n corners are above tol and below -tol: neither, if all are and tol is not negative
