@@ -14,7 +14,7 @@ use Rattle.clip.specs.declared.Side.{Side}
 use Rattle.clip.specs.declared.Side.the-variants.{Above, Below, Neither}
 use Rattle.clip.specs.Clip.{Cut, bySide, clipSide, clipSides, clipped, duplicate, edges, edgesTo, inside, keptSide, liesOn, outcome}
 use Rattle.clip.specs.Clip.{planeIntersection, planeSectionSegments, pushAll, pushSegment, pushSegments, pushUnique, sectionOn}
-use Rattle.clip.specs.Clip.{segments, signed, tol2, unique, withoutClosing}
+use Rattle.clip.specs.Clip.{segments, signed, tolSquared, unique, withoutClosing}
 use Rattle.clip.specs.Cell.{CellBound, PolygonBound, atMost, cellSegments, faceSegments, projectSeg}
 
 -- ---- the points of the edges: an edge to the inside may give two points, but must come from the outside
@@ -59,49 +59,49 @@ clipSides-bound c s [] = omega arith
 clipSides-bound c s (a ∷ l) = omega (arith, sides-bound c s a a l)
 
 -- ---- the points that are kept
-module _ (t : Float) where
-  push-bound : (k : List Vector) (p : Vector) → (length k ≤ length (pushUnique t k p)) × (length (pushUnique t k p) ≤ length k + 1)
+module _ (tol2 : Float) where
+  push-bound : (k : List Vector) (p : Vector) → (length k ≤ length (pushUnique tol2 k p)) × (length (pushUnique tol2 k p) ≤ length k + 1)
   unfolding pushUnique
-  push-bound k p = byTest (unique t k p)
+  push-bound k p = byTest (unique tol2 k p)
     where
       byTest : (b : Bool) → (length k ≤ length (cond b (k ++ p ∷ []) k)) × (length (cond b (k ++ p ∷ []) k) ≤ length k + 1)
       byTest true = let e = length-append k (p ∷ []) in (omega arith, omega arith)
       byTest false = (omega arith, omega arith)
 
-  pub pushAll-bound : (k ps : List Vector) → (length k ≤ length (pushAll t k ps)) × (length (pushAll t k ps) ≤ length k + length ps)
+  pub pushAll-bound : (k ps : List Vector) → (length k ≤ length (pushAll tol2 k ps)) × (length (pushAll tol2 k ps) ≤ length k + length ps)
   unfolding pushAll
   pushAll-bound k [] = (omega arith, omega arith)
   pushAll-bound k (p ∷ ps) =
-      let h = pushAll-bound (pushUnique t k p) ps in
+      let h = pushAll-bound (pushUnique tol2 k p) ps in
       let g = push-bound k p in
       (omega arith, omega arith)
 
-  closing-bound : (k : List Vector) → length (withoutClosing t k) ≤ length k
+  closing-bound : (k : List Vector) → length (withoutClosing tol2 k) ≤ length k
   unfolding withoutClosing
-  closing-bound k = byTest (ltb 1 (length k) && le (dist2 (getD k 0 []) (getD k (length k - 1) [])) t)
+  closing-bound k = byTest (ltb 1 (length k) && le (dist2 (getD k 0 []) (getD k (length k - 1) [])) tol2)
     where
       byTest : (b : Bool) → length (cond b (take (length k - 1) k) k) ≤ length k
       byTest true = omega (arith, length-take (length k - 1) k)
       byTest false = omega arith
 
 pub clipped-bound : (c : Cut) (s : Float) (ps : List Vector) → length (clipped c s ps) ≤ atMost (length ps)
-clipped-bound c s ps = omega (arith, clipSides-bound c s ps, pushAll-bound (tol2 c) [] (clipSides c s (edges ps)) .1)
+clipped-bound c s ps = omega (arith, clipSides-bound c s ps, pushAll-bound (tolSquared c) [] (clipSides c s (edges ps)) .1)
 
 -- ---- the segments
-module _ (c : Cut) (t : Float) where
+module _ (c : Cut) (tol2 : Float) where
   pub pushSegment-bound : (fs : List Seg) (e : Seg)
-      → (length fs ≤ length (pushSegment c t fs e)) × (length (pushSegment c t fs e) ≤ length fs + 1)
+      → (length fs ≤ length (pushSegment c tol2 fs e)) × (length (pushSegment c tol2 fs e) ≤ length fs + 1)
   unfolding pushSegment
-  pushSegment-bound fs e = byTest (liesOn c t e && not (duplicate t fs e))
+  pushSegment-bound fs e = byTest (liesOn c tol2 e && not (duplicate tol2 fs e))
     where
       byTest : (b : Bool) → (length fs ≤ length (cond b (fs ++ e ∷ []) fs)) × (length (cond b (fs ++ e ∷ []) fs) ≤ length fs + 1)
       byTest true = let h = length-append fs (e ∷ []) in (omega arith, omega arith)
       byTest false = (omega arith, omega arith)
 
-  pushSegments-bound : (fs es : List Seg) → length (pushSegments c t fs es) ≤ length fs + length es
+  pushSegments-bound : (fs es : List Seg) → length (pushSegments c tol2 fs es) ≤ length fs + length es
   unfolding pushSegments
   pushSegments-bound fs [] = omega arith
-  pushSegments-bound fs (e ∷ es) = omega (arith, pushSegments-bound (pushSegment c t fs e) es, pushSegment-bound fs e .1)
+  pushSegments-bound fs (e ∷ es) = omega (arith, pushSegments-bound (pushSegment c tol2 fs e) es, pushSegment-bound fs e .1)
 
 edgesTo-length : (f : Vector) (l : List Vector) → length (edgesTo f l) ≡ length l
 edgesTo-length f [] = refl
@@ -114,14 +114,14 @@ edges-length ps = edgesTo-length (getD ps 0 []) ps
 segments-bound : (c : Cut) (k : List Vector) → length (segments c k) ≤ length k
 segments-bound c k = byTest (ltb (length k) 2)
   where
-    byTest : (b : Bool) → length (cond b [] (pushSegments c (tol2 c) [] (edges k))) ≤ length k
+    byTest : (b : Bool) → length (cond b [] (pushSegments c (tolSquared c) [] (edges k))) ≤ length k
     byTest true = omega arith
-    byTest false = omega (arith, pushSegments-bound c (tol2 c) [] (edges k), edges-length k)
+    byTest false = omega (arith, pushSegments-bound c (tolSquared c) [] (edges k), edges-length k)
 
 on-bound : (c : Cut) (s : Float) (ps : List Vector) → length (sectionOn c s ps) ≤ atMost (length ps)
 on-bound c s ps =
     let k = clipped c s ps in
-    omega (arith, segments-bound c (withoutClosing (tol2 c) k), closing-bound (tol2 c) k, clipped-bound c s ps)
+    omega (arith, segments-bound c (withoutClosing (tolSquared c) k), closing-bound (tolSquared c) k, clipped-bound c s ps)
 
 side-kept : (c : Cut) (ps : List Vector) (g : Side) → length (bySide c ps g) ≤ atMost (length ps)
 side-kept c ps Above = on-bound c f1 ps

@@ -14,7 +14,7 @@ use Rattle.clip.specs.declared.Side.{Side}
 use Rattle.clip.specs.declared.Side.the-variants.{Above, Below}
 use Rattle.clip.specs.Clip.{Cut, anyAbove, anyBelow, away, bySide, clipSides, clipped, edges, edgesTo, keptSide}
 use Rattle.clip.specs.Clip.{planeSectionSegments, pushAll, pushSegment, pushSegments, pushUnique, segments}
-use Rattle.clip.specs.Clip.{tol2, unique, withoutClosing}
+use Rattle.clip.specs.Clip.{tolSquared, unique, withoutClosing}
 use Rattle.clip.specs.Clear.{Clear, ClearAbove, ClearBelow, ClearFace, ClearSide, Each, LeftOut}
 use Rattle.clip.proofs.Signs.{above-inside, above-off, below-inside, below-not-above, below-off}
 
@@ -51,53 +51,53 @@ module _ (c : Cut) (s : Float) where
   clear-edges [] h = tt
   clear-edges (a ∷ l) h = clear-sides a (a ∷ l) (h .0) h
 
-module _ (c : Cut) (t : Float) where
-  off-push : (k : List Vector) (p : Vector) → Each (Off c) k → Off c p → Each (Off c) (pushUnique t k p)
+module _ (c : Cut) (tol2 : Float) where
+  off-push : (k : List Vector) (p : Vector) → Each (Off c) k → Off c p → Each (Off c) (pushUnique tol2 k p)
   unfolding pushUnique
-  off-push k p h g = byTest (unique t k p)
+  off-push k p h g = byTest (unique tol2 k p)
     where
       byTest : (b : Bool) → Each (Off c) (cond b (k ++ p ∷ []) k)
       byTest true = each-append (Off c) k (p ∷ []) h (g, tt)
       byTest false = h
 
-  off-pushes : (k ps : List Vector) → Each (Off c) k → Each (Off c) ps → Each (Off c) (pushAll t k ps)
+  off-pushes : (k ps : List Vector) → Each (Off c) k → Each (Off c) ps → Each (Off c) (pushAll tol2 k ps)
   unfolding pushAll
   off-pushes k [] h g = h
-  off-pushes k (p ∷ ps) h g = off-pushes (pushUnique t k p) ps (off-push k p h (g .0)) (g .1)
+  off-pushes k (p ∷ ps) h g = off-pushes (pushUnique tol2 k p) ps (off-push k p h (g .0)) (g .1)
 
-  off-closing : (k : List Vector) → Each (Off c) k → Each (Off c) (withoutClosing t k)
+  off-closing : (k : List Vector) → Each (Off c) k → Each (Off c) (withoutClosing tol2 k)
   unfolding withoutClosing
-  off-closing k h = byTest (ltb 1 (length k) && le (dist2 (getD k 0 []) (getD k (length k - 1) [])) t)
+  off-closing k h = byTest (ltb 1 (length k) && le (dist2 (getD k 0 []) (getD k (length k - 1) [])) tol2)
     where
       byTest : (b : Bool) → Each (Off c) (cond b (take (length k - 1) k) k)
       byTest true = each-take (Off c) (length k - 1) k h
       byTest false = h
 
   -- ---- the segments: none
-  off-segment : (fs : List Seg) (a b : Vector) → Off c a → pushSegment c t fs (seg a b) ≡ fs
+  off-segment : (fs : List Seg) (a b : Vector) → Off c a → pushSegment c tol2 fs (seg a b) ≡ fs
   unfolding pushSegment
   off-segment fs a b h = rw h
 
-  off-segments : (fs : List Seg) (f : Vector) (k : List Vector) → Each (Off c) k → pushSegments c t fs (edgesTo f k) ≡ fs
+  off-segments : (fs : List Seg) (f : Vector) (k : List Vector) → Each (Off c) k → pushSegments c tol2 fs (edgesTo f k) ≡ fs
   unfolding pushSegments
   off-segments fs f [] h = refl
   off-segments fs f (a ∷ []) h = off-segment fs a f (h .0)
   off-segments fs f (a ∷ b ∷ l) h =
-      ap (λ (es : List Seg). pushSegments c t es (edgesTo f (b ∷ l))) (off-segment fs a b (h .0)) ∙ off-segments fs f (b ∷ l) (h .1)
+      ap (λ (es : List Seg). pushSegments c tol2 es (edgesTo f (b ∷ l))) (off-segment fs a b (h .0)) ∙ off-segments fs f (b ∷ l) (h .1)
 
 off-none : (c : Cut) (k : List Vector) → Each (Off c) k → segments c k ≡ []
 off-none c k h = byTest (ltb (length k) 2)
   where
-    byTest : (b : Bool) → cond b [] (pushSegments c (tol2 c) [] (edges k)) ≡ []
+    byTest : (b : Bool) → cond b [] (pushSegments c (tolSquared c) [] (edges k)) ≡ []
     byTest true = refl
-    byTest false = off-segments c (tol2 c) [] (getD k 0 []) k h
+    byTest false = off-segments c (tolSquared c) [] (getD k 0 []) k h
 
 -- ---- the theorems
 pub clear-side : (c : Cut) (s : Float) (ps : List Vector) → ClearSide c s ps
 clear-side c s ps h =
-    let t = tol2 c in
-    off-none c (withoutClosing t (clipped c s ps))
-    (off-closing c t (clipped c s ps) (off-pushes c t [] (clipSides c s (edges ps)) tt (clear-edges c s ps h)))
+    let tol2 = tolSquared c in
+    off-none c (withoutClosing tol2 (clipped c s ps))
+    (off-closing c tol2 (clipped c s ps) (off-pushes c tol2 [] (clipSides c s (edges ps)) tt (clear-edges c s ps h)))
 
 clear-by : (c : Cut) (ps : List Vector) {g : Side} → keptSide c ps ≡ g → bySide c ps g ≡ [] → planeSectionSegments c ps ≡ []
 unfolding planeSectionSegments

@@ -30,28 +30,28 @@ pub crossing : (c : Cut) (a : Vector) (da : Float) (b : Vector) (db : Float) {t 
 unfolding planeIntersection
 crossing c a da b db et eu ev ep ed eq er = rw (er, eq, ed, ep, ev, eu, et)
 
--- ---- one point; t is tol times tol
-module _ (w : ℕ) (xs : List Float) (m : ℕ) (p : Vector) (t : Float) where
-  unique-later : {q : Vector} {d : Float} → 0 < m → q ≡ row w xs (m - 1) → d ≡ dist2 q p → unique t (rows w m xs) p ≡ lt t d
+-- ---- one point; tol2 is tol times tol
+module _ (w : ℕ) (xs : List Float) (m : ℕ) (p : Vector) (tol2 : Float) where
+  unique-later : {q : Vector} {d : Float} → 0 < m → q ≡ row w xs (m - 1) → d ≡ dist2 q p → unique tol2 (rows w m xs) p ≡ lt tol2 d
   unique-later {q} h e ed = rw (rows-length w m xs, ne-eqb m 0 (λ z. omega arith), rows-getD w m xs (m - 1) (omega arith), ed, e)
 
-  pushed : {zs : List Float} → unique t (rows w m xs) p ≡ true → length p ≡ w → w * (m + 1) ≤ length xs → zs ≡ put w xs m p
-      → Points w xs (pushUnique t (rows w m xs) p) (m + 1) zs
+  pushed : {zs : List Float} → unique tol2 (rows w m xs) p ≡ true → length p ≡ w → w * (m + 1) ≤ length xs → zs ≡ put w xs m p
+      → Points w xs (pushUnique tol2 (rows w m xs) p) (m + 1) zs
   unfolding pushUnique
   pushed e l h z =
       let h′ : w * suc m ≤ length xs = rw add-one at h in
       record { are = rw (e, z, add-one) (rows-put w m xs p l h′); rest = rw (z, add-one) (rest-put w m xs p l h′) }
 
   pub push-first : {zs : List Float} → m ≡ 0 → length p ≡ w → w * (m + 1) ≤ length xs → zs ≡ put w xs m p
-      → Points w xs (pushUnique t (rows w m xs) p) (m + 1) zs
+      → Points w xs (pushUnique tol2 (rows w m xs) p) (m + 1) zs
   push-first e = pushed (rw (rows-length w m xs, eq-eqb m 0 e))
 
-  pub push-far : {q : Vector} {d : Float} {zs : List Float} → 0 < m → q ≡ row w xs (m - 1) → d ≡ dist2 q p → lt t d ≡ true
-      → length p ≡ w → w * (m + 1) ≤ length xs → zs ≡ put w xs m p → Points w xs (pushUnique t (rows w m xs) p) (m + 1) zs
+  pub push-far : {q : Vector} {d : Float} {zs : List Float} → 0 < m → q ≡ row w xs (m - 1) → d ≡ dist2 q p → lt tol2 d ≡ true
+      → length p ≡ w → w * (m + 1) ≤ length xs → zs ≡ put w xs m p → Points w xs (pushUnique tol2 (rows w m xs) p) (m + 1) zs
   push-far h e ed f = pushed (unique-later h e ed ∙ f)
 
-  pub push-near : {q : Vector} {d : Float} → 0 < m → q ≡ row w xs (m - 1) → d ≡ dist2 q p → lt t d ≡ false
-      → Points w xs (pushUnique t (rows w m xs) p) m xs
+  pub push-near : {q : Vector} {d : Float} → 0 < m → q ≡ row w xs (m - 1) → d ≡ dist2 q p → lt tol2 d ≡ false
+      → Points w xs (pushUnique tol2 (rows w m xs) p) m xs
   unfolding pushUnique
   push-near h e ed f = record { are = rw (unique-later h e ed ∙ f); rest = refl }
 
@@ -59,45 +59,45 @@ module _ (w : ℕ) (xs : List Float) (m : ℕ) (p : Vector) (t : Float) where
 points-count : {w : ℕ} {xs : List Float} {k : List Vector} {r : ℕ} {zs : List Float} → Points w xs k r zs → r ≡ length k
 points-count {w} {xs} {k} {r} {zs} h = sym (rows-length w r zs) ∙ ap length (h .are)
 
-pushed-range : {w : ℕ} {xs : List Float} (m : ℕ) (t : Float) (ps : List Vector) {r : ℕ} {zs : List Float}
-    → Points w xs (pushAll t (rows w m xs) ps) r zs → (m ≤ r) × (r ≤ m + length ps)
-pushed-range {w} {xs} m t ps h =
-    let b = pushAll-bound t (rows w m xs) ps in
+pushed-range : {w : ℕ} {xs : List Float} (m : ℕ) (tol2 : Float) (ps : List Vector) {r : ℕ} {zs : List Float}
+    → Points w xs (pushAll tol2 (rows w m xs) ps) r zs → (m ≤ r) × (r ≤ m + length ps)
+pushed-range {w} {xs} m tol2 ps h =
+    let b = pushAll-bound tol2 (rows w m xs) ps in
     let e = points-count h in
     let l = rows-length w m xs in
     (omega arith, omega arith)
 
-pub push-none : (w : ℕ) (xs : List Float) (m : ℕ) (t : Float) → Points w xs (pushAll t (rows w m xs) []) m xs
+pub push-none : (w : ℕ) (xs : List Float) (m : ℕ) (tol2 : Float) → Points w xs (pushAll tol2 (rows w m xs) []) m xs
 unfolding pushAll
-push-none w xs m t = record { are = refl; rest = refl }
+push-none w xs m tol2 = record { are = refl; rest = refl }
 
-pub push-one : {w : ℕ} {xs : List Float} (m : ℕ) (t : Float) (p : Vector) {r : ℕ} {zs : List Float}
-    → Points w xs (pushUnique t (rows w m xs) p) r zs → Points w xs (pushAll t (rows w m xs) (p ∷ [])) r zs
+pub push-one : {w : ℕ} {xs : List Float} (m : ℕ) (tol2 : Float) (p : Vector) {r : ℕ} {zs : List Float}
+    → Points w xs (pushUnique tol2 (rows w m xs) p) r zs → Points w xs (pushAll tol2 (rows w m xs) (p ∷ [])) r zs
 unfolding pushAll
-push-one m t p h = h
+push-one m tol2 p h = h
 
-pub pushed-at-most : {w : ℕ} {xs : List Float} (m : ℕ) (t : Float) (p : Vector) {r : ℕ} {zs : List Float}
-    → Points w xs (pushUnique t (rows w m xs) p) r zs → r ≤ m + 1
-pushed-at-most m t p h = pushed-range m t (p ∷ []) (push-one m t p h) .1
+pub pushed-at-most : {w : ℕ} {xs : List Float} (m : ℕ) (tol2 : Float) (p : Vector) {r : ℕ} {zs : List Float}
+    → Points w xs (pushUnique tol2 (rows w m xs) p) r zs → r ≤ m + 1
+pushed-at-most m tol2 p h = pushed-range m tol2 (p ∷ []) (push-one m tol2 p h) .1
 
-pub push-two : {w : ℕ} {xs : List Float} (m : ℕ) (t : Float) (p q : Vector) {r : ℕ} {zs : List Float} {r′ : ℕ} {ys : List Float}
-    → Points w xs (pushUnique t (rows w m xs) p) r zs → Points w zs (pushUnique t (rows w r zs) q) r′ ys
-    → Points w xs (pushAll t (rows w m xs) (p ∷ q ∷ [])) r′ ys
+pub push-two : {w : ℕ} {xs : List Float} (m : ℕ) (tol2 : Float) (p q : Vector) {r : ℕ} {zs : List Float} {r′ : ℕ} {ys : List Float}
+    → Points w xs (pushUnique tol2 (rows w m xs) p) r zs → Points w zs (pushUnique tol2 (rows w r zs) q) r′ ys
+    → Points w xs (pushAll tol2 (rows w m xs) (p ∷ q ∷ [])) r′ ys
 unfolding pushAll
-push-two {w} {xs} m t p q {r} {zs} {r′} a b =
+push-two {w} {xs} m tol2 p q {r} {zs} {r′} a b =
     record {
-      are = b .are ∙ ap (λ (k : List Vector). pushUnique t k q) (a .are);
-      rest = b .rest ∙ drop-later zs xs (w * r) (w * r′) (mul-le-mul-left w (pushed-range r t (q ∷ []) (push-one r t q b) .0)) (a .rest);
+      are = b .are ∙ ap (λ (k : List Vector). pushUnique tol2 k q) (a .are);
+      rest = b .rest ∙ drop-later zs xs (w * r) (w * r′) (mul-le-mul-left w (pushed-range r tol2 (q ∷ []) (push-one r tol2 q b) .0)) (a .rest);
     }
 
-pushAll-append : (t : Float) (k ps qs : List Vector) → pushAll t k (ps ++ qs) ≡ pushAll t (pushAll t k ps) qs
+pushAll-append : (tol2 : Float) (k ps qs : List Vector) → pushAll tol2 k (ps ++ qs) ≡ pushAll tol2 (pushAll tol2 k ps) qs
 unfolding pushAll
-pushAll-append t k [] qs = refl
-pushAll-append t k (p ∷ ps) qs = pushAll-append t (pushUnique t k p) ps qs
+pushAll-append tol2 k [] qs = refl
+pushAll-append tol2 k (p ∷ ps) qs = pushAll-append tol2 (pushUnique tol2 k p) ps qs
 
 -- ---- the loop over the edges of the n corners of ps: i edges are passed and m points kept; a is the next corner, da its signed distance
-pub record Clipping (w : ℕ) (c : Cut) (s t : Float) (n : ℕ) (ps xs : List Float) (i m : ℕ) (zs : List Float) (a : Vector) (da : Float) : Type 0 where
-  pub total : pushAll t [] (clipSides c s (edges (rows w n ps))) ≡ pushAll t (rows w m zs) (clipSides c s (drop i (edges (rows w n ps))))
+pub record PolygonClipping (w : ℕ) (c : Cut) (s tol2 : Float) (n : ℕ) (ps xs : List Float) (i m : ℕ) (zs : List Float) (a : Vector) (da : Float) : Type 0 where
+  pub total : pushAll tol2 [] (clipSides c s (edges (rows w n ps))) ≡ pushAll tol2 (rows w m zs) (clipSides c s (drop i (edges (rows w n ps))))
   pub room : m + length (clipSides c s (drop i (edges (rows w n ps)))) ≤ atMost n
   pub rest : drop (w * m) zs ≡ drop (w * m) xs
   pub same-length : length zs ≡ length xs
@@ -113,9 +113,9 @@ first-distance c w n ps xs s f h =
     let z : length xs - n + 0 ≡ length xs - n = omega arith in
     ap (mul binary64 s) (rw z at (f 0 h))
 
-module _ {w : ℕ} {c : Cut} {s t : Float} {n : ℕ} {ps xs : List Float} {i m : ℕ} {zs : List Float} {a : Vector} {da first : Float}
+module _ {w : ℕ} {c : Cut} {s tol2 : Float} {n : ℕ} {ps xs : List Float} {i m : ℕ} {zs : List Float} {a : Vector} {da first : Float}
     {j : ℕ} {b : Vector}
-    (v : Clipping w c s t n ps xs i m zs a da) (f : Distances c w n ps xs) (h : i < n) (ej : j ≡ nextOf i n) (eb : b ≡ row w ps j)
+    (v : PolygonClipping w c s tol2 n ps xs i m zs a da) (f : Distances c w n ps xs) (h : i < n) (ej : j ≡ nextOf i n) (eb : b ≡ row w ps j)
     (fits : n ≤ length xs) (untouched : w * m ≤ length xs - n + (i + 1)) (e0 : first ≡ signed c s (row w ps 0)) where
   unwritten : (k : ℕ) → w * m ≤ k → getD zs k nan ≡ getD xs k nan
   unwritten k g =
@@ -144,9 +144,9 @@ module _ {w : ℕ} {c : Cut} {s t : Float} {n : ℕ} {ps xs : List Float} {i m :
       byPlace (inr g) =
           rw (le-ltb (length xs - n + i + 1) (length zs) (omega (arith, v .same-length)), e0, eb, ej, le-ltb (i + 1) n g)
 
-pub clipping-start : (w : ℕ) (c : Cut) (s t : Float) (n : ℕ) (ps xs : List Float) {a : Vector} {da : Float} → a ≡ row w ps 0
-    → da ≡ signed c s a → Clipping w c s t n ps xs 0 0 xs a da
-clipping-start w c s t n ps xs {a} ea ed =
+pub clipping-start : (w : ℕ) (c : Cut) (s tol2 : Float) (n : ℕ) (ps xs : List Float) {a : Vector} {da : Float} → a ≡ row w ps 0
+    → da ≡ signed c s a → PolygonClipping w c s tol2 n ps xs 0 0 xs a da
+clipping-start w c s tol2 n ps xs {a} ea ed =
     record {
       total = refl;
       room = omega (arith, clipSides-bound c s (rows w n ps), rows-length w n ps);
@@ -158,9 +158,9 @@ clipping-start w c s t n ps xs {a} ea ed =
       few = omega (arith, outside-most c s a);
     }
 
-module _ {w : ℕ} {c : Cut} {s t : Float} {n : ℕ} {ps xs : List Float} {i m : ℕ} {zs : List Float} {a : Vector} {da : Float}
+module _ {w : ℕ} {c : Cut} {s tol2 : Float} {n : ℕ} {ps xs : List Float} {i m : ℕ} {zs : List Float} {a : Vector} {da : Float}
     {j : ℕ} {b : Vector} {db : Float} {k : List Vector}
-    (v : Clipping w c s t n ps xs i m zs a da) (h : i < n) (ej : j ≡ nextOf i n) (eb : b ≡ row w ps j) (ed : db ≡ signed c s b)
+    (v : PolygonClipping w c s tol2 n ps xs i m zs a da) (h : i < n) (ej : j ≡ nextOf i n) (eb : b ≡ row w ps j) (ed : db ≡ signed c s b)
     (ek : k ≡ clipEdge c a da b db) where
   side : clipSides c s (drop i (edges (rows w n ps))) ≡ k ++ clipSides c s (drop (i + 1) (edges (rows w n ps)))
   unfolding clipSides
@@ -172,38 +172,38 @@ module _ {w : ℕ} {c : Cut} {s t : Float} {n : ℕ} {ps xs : List Float} {i m :
   pub clipping-room : m + length k ≤ atMost n
   clipping-room = omega (arith, v .room, ap length side, length-append k (clipSides c s (drop (i + 1) (edges (rows w n ps)))))
 
-  pub clipping-step : {r : ℕ} {ys : List Float} → Points w zs (pushAll t (rows w m zs) k) r ys → length ys ≡ length zs
-      → Clipping w c s t n ps xs (i + 1) r ys b db
+  pub clipping-step : {r : ℕ} {ys : List Float} → Points w zs (pushAll tol2 (rows w m zs) k) r ys → length ys ≡ length zs
+      → PolygonClipping w c s tol2 n ps xs (i + 1) r ys b db
   clipping-step {r} {ys} g l =
       let later = clipSides c s (drop (i + 1) (edges (rows w n ps))) in
       record {
-        total = v .total ∙ rw side (pushAll-append t (rows w m zs) k later ∙ rw (← g .are));
-        room = omega (arith, v .room, ap length side, length-append k later, pushed-range m t k g .1);
-        rest = g .rest ∙ drop-later zs xs (w * m) (w * r) (mul-le-mul-left w (pushed-range m t k g .0)) (v .rest);
+        total = v .total ∙ rw side (pushAll-append tol2 (rows w m zs) k later ∙ rw (← g .are));
+        room = omega (arith, v .room, ap length side, length-append k later, pushed-range m tol2 k g .1);
+        rest = g .rest ∙ drop-later zs xs (w * m) (w * r) (mul-le-mul-left w (pushed-range m tol2 k g .0)) (v .rest);
         same-length = l ∙ v .same-length;
         within = omega arith;
         corner = next-corner w ps i ej eb;
         its-distance = ed;
-        few = omega (arith, v .few, pushed-range m t k g .1, side-bound c s a b, given);
+        few = omega (arith, v .few, pushed-range m tol2 k g .1, side-bound c s a b, given);
       }
 
-pub clipping-end : {w : ℕ} {c : Cut} {s t : Float} {n : ℕ} {ps xs : List Float} {i m : ℕ} {zs : List Float} {a : Vector} {da : Float}
-    → Clipping w c s t n ps xs i m zs a da → n ≤ i → Points w xs (pushAll t [] (clipSides c s (edges (rows w n ps)))) m zs
+pub clipping-end : {w : ℕ} {c : Cut} {s tol2 : Float} {n : ℕ} {ps xs : List Float} {i m : ℕ} {zs : List Float} {a : Vector} {da : Float}
+    → PolygonClipping w c s tol2 n ps xs i m zs a da → n ≤ i → Points w xs (pushAll tol2 [] (clipSides c s (edges (rows w n ps)))) m zs
 unfolding clipSides pushAll
-clipping-end {w} {c} {s} {t} {n} {ps} v h = record { are = sym (v .total ∙ rw (edges-end w n ps h)); rest = v .rest }
+clipping-end {w} {c} {s} {tol2} {n} {ps} v h = record { are = sym (v .total ∙ rw (edges-end w n ps h)); rest = v .rest }
 
 pub clipped-count : {w : ℕ} (c : Cut) (s : Float) (n : ℕ) (ps : List Float) {xs : List Float} {m : ℕ} {zs : List Float}
     → Points w xs (clipped c s (rows w n ps)) m zs → m ≤ atMost n
 clipped-count {w} c s n ps h = omega (arith, points-count h, clipped-bound c s (rows w n ps), rows-length w n ps)
 
 -- ---- the closing duplicate
-module _ (w m : ℕ) (xs : List Float) (t : Float) where
-  pub closing-few : m ≤ 1 → rows w m xs ≡ withoutClosing t (rows w m xs)
+module _ (w m : ℕ) (xs : List Float) (tol2 : Float) where
+  pub closing-few : m ≤ 1 → rows w m xs ≡ withoutClosing tol2 (rows w m xs)
   unfolding withoutClosing
   closing-few h = rw (rows-length w m xs, le-ltb 1 m h)
 
   closing-test : {a b : Vector} {d : Float} → 1 < m → a ≡ row w xs 0 → b ≡ row w xs (m - 1) → d ≡ dist2 a b
-      → withoutClosing t (rows w m xs) ≡ cond (le d t) (rows w (m - 1) xs) (rows w m xs)
+      → withoutClosing tol2 (rows w m xs) ≡ cond (le d tol2) (rows w (m - 1) xs) (rows w m xs)
   unfolding withoutClosing
   closing-test {a} {b} {d} h ea eb ed =
       rw (
@@ -217,10 +217,10 @@ module _ (w m : ℕ) (xs : List Float) (t : Float) where
         rows-take w m xs (m - 1) (omega arith),
       )
 
-  pub closing-near : {a b : Vector} {d : Float} → 1 < m → a ≡ row w xs 0 → b ≡ row w xs (m - 1) → d ≡ dist2 a b → le d t ≡ true
-      → rows w (m - 1) xs ≡ withoutClosing t (rows w m xs)
+  pub closing-near : {a b : Vector} {d : Float} → 1 < m → a ≡ row w xs 0 → b ≡ row w xs (m - 1) → d ≡ dist2 a b → le d tol2 ≡ true
+      → rows w (m - 1) xs ≡ withoutClosing tol2 (rows w m xs)
   closing-near h ea eb ed e = sym (closing-test h ea eb ed ∙ rw e)
 
-  pub closing-far : {a b : Vector} {d : Float} → 1 < m → a ≡ row w xs 0 → b ≡ row w xs (m - 1) → d ≡ dist2 a b → le d t ≡ false
-      → rows w m xs ≡ withoutClosing t (rows w m xs)
+  pub closing-far : {a b : Vector} {d : Float} → 1 < m → a ≡ row w xs 0 → b ≡ row w xs (m - 1) → d ≡ dist2 a b → le d tol2 ≡ false
+      → rows w m xs ≡ withoutClosing tol2 (rows w m xs)
   closing-far h ea eb ed e = sym (closing-test h ea eb ed ∙ rw e)

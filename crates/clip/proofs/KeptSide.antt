@@ -7,7 +7,7 @@ use Prim.Native.Nat.{ℕ, suc, _+_, _-_, _≤_, _<_}
 use native.Mathlib.Nat.{eq-or-lt-of-le}
 use native.Mathlib.Numerals.{add-one}
 use native.Mathlib.Omega.{arith}
-use borrow.Author.Tests.{eqb-true, le-ltb, lt-ltb}
+use borrow.Author.Tests.{eqb-true, lt-ltb}
 use lib.Dec.{eqb, ltb}
 use lib.Ieee.{Float, nan, lt, le, neg}
 use lib.ListN.{length, getD, drop, set, drop-of-length-le, length-set}
@@ -18,10 +18,9 @@ use Rattle.vector.specs.Rows.{row, rows}
 use Rattle.vector.proofs.Rows.{rows-getD, rows-length}
 use Rattle.clip.specs.declared.Side.{Side}
 use Rattle.clip.specs.declared.Side.the-variants.{Above, Below, Neither}
-use Rattle.clip.specs.Clip.{Cut, anyAbove, anyBelow, away, bySide, planeSectionSegments}
+use Rattle.clip.specs.Clip.{Cut, anyAbove, anyBelow, away, keptSide}
 use Rattle.clip.specs.Clear.{Each}
-use Rattle.clip.specs.Code.{Sided, sideOf}
-use Rattle.clip.proofs.Clear.{left-out}
+use Rattle.clip.specs.Code.{PassedOver, Sided, sideOf}
 
 -- ---- how many points pass a test
 abbrev pub tally : (Vector → Bool) → List Vector → ℕ
@@ -67,24 +66,33 @@ any-below c [] = refl
 any-below c (p ∷ ps) = ap (λ (b : Bool). lower c p || b) (any-below c ps) ∙ tally-some (lower c p) (tally (lower c) ps)
 
 -- ---- the side by the tallies
-by-tally : (c : Cut) (ps : List Vector) → 3 ≤ length ps
-    → planeSectionSegments c ps
-    ≡ bySide c ps (cond (ltb 0 (tally (higher c) ps)) Above (cond (ltb 0 (tally (lower c) ps)) Below Neither))
-unfolding planeSectionSegments
-by-tally c ps h = rw (le-ltb (length ps) 3 h, any-above c ps, any-below c ps)
+by-tally : (c : Cut) (ps : List Vector) → cond (ltb 0 (tally (higher c) ps)) Above (cond (ltb 0 (tally (lower c) ps)) Below Neither) ≡ keptSide c ps
+by-tally c ps = rw (any-above c ps, any-below c ps)
 
-side-by-tally : (c : Cut) (ps : List Vector) → 3 ≤ length ps
-    → planeSectionSegments c ps ≡ bySide c ps (sideOf (tally (higher c) ps) (tally (lower c) ps) (length ps) (c .tol))
-side-by-tally c ps h =
+side-by-tally : (c : Cut) (ps : List Vector)
+    → let g = sideOf (tally (higher c) ps) (tally (lower c) ps) (length ps) (c .tol) in
+    (g ≡ keptSide c ps) ⊎ ((g ≡ Neither) × PassedOver c ps)
+side-by-tally c ps =
     byTest (le f0 (c .tol)) (eqb (tally (higher c) ps) (length ps)) (eqb (tally (lower c) ps) (length ps)) refl refl refl
   where
     byTest : (x y z : Bool) → le f0 (c .tol) ≡ x → eqb (tally (higher c) ps) (length ps) ≡ y → eqb (tally (lower c) ps) (length ps) ≡ z
-        → planeSectionSegments c ps
-        ≡ bySide c ps (cond (x && (y || z)) Neither (cond (ltb 0 (tally (higher c) ps)) Above (cond (ltb 0 (tally (lower c) ps)) Below Neither)))
-    byTest true true z ex ey ez = left-out c ps .above ex (tally-each (higher c) ps (eqb-true (tally (higher c) ps) (length ps) ey))
-    byTest true false true ex ey ez = left-out c ps .below ex (tally-each (lower c) ps (eqb-true (tally (lower c) ps) (length ps) ez))
-    byTest true false false ex ey ez = by-tally c ps h
-    byTest false y z ex ey ez = by-tally c ps h
+        → let g = cond (x && (y || z)) Neither (cond (ltb 0 (tally (higher c) ps)) Above (cond (ltb 0 (tally (lower c) ps)) Below Neither)) in
+        (g ≡ keptSide c ps) ⊎ ((g ≡ Neither) × PassedOver c ps)
+    byTest true true z ex ey ez =
+        inr (refl, record { not-negative = ex; beyond = inl (tally-each (higher c) ps (eqb-true (tally (higher c) ps) (length ps) ey)) })
+    byTest true false true ex ey ez =
+        inr (refl, record { not-negative = ex; beyond = inr (tally-each (lower c) ps (eqb-true (tally (lower c) ps) (length ps) ez)) })
+    byTest true false false ex ey ez = inl (by-tally c ps)
+    byTest false y z ex ey ez = inl (by-tally c ps)
+
+-- Whatever is read from a side: where a face that is passed over gives what neither side does, the side g gives what the kept one does.
+module _ {A : Type 0} (f : Side → A) {c : Cut} {w n : ℕ} {ps : List Float} {g : Side} {xs : List Float} (v : Sided c w n ps g xs) where
+  pub from-side : (PassedOver c (rows w n ps) → f (keptSide c (rows w n ps)) ≡ f Neither) → f (keptSide c (rows w n ps)) ≡ f g
+  from-side none = bySide′ (v .side)
+    where
+      bySide′ : (g ≡ keptSide c (rows w n ps)) ⊎ ((g ≡ Neither) × PassedOver c (rows w n ps)) → f (keptSide c (rows w n ps)) ≡ f g
+      bySide′ (inl e) = ap f (sym e)
+      bySide′ (inr o) = none (o .1) ∙ ap f (sym (o .0))
 
 -- ---- the loop over the n corners of ps: i are passed, of which so many are above and below, and their distances stand in zs
 pub record Looking (w n : ℕ) (ps : List Float) (c : Cut) (xs : List Float) (i above below : ℕ) (zs : List Float) : Type 0 where
@@ -144,10 +152,10 @@ module _ {w n : ℕ} {ps : List Float} {c : Cut} {xs : List Float} {i above belo
       }
 
 pub looking-end : {w n : ℕ} {ps : List Float} {c : Cut} {xs : List Float} {i above below : ℕ} {zs : List Float} {g : Side}
-    → Looking w n ps c xs i above below zs → n ≤ i → 3 ≤ n → g ≡ sideOf above below n (c .tol) → Sided c w n ps g zs
-looking-end {w} {n} {ps} {c} {xs} {i} {above} {below} {zs} v h l eg =
+    → Looking w n ps c xs i above below zs → n ≤ i → g ≡ sideOf above below n (c .tol) → Sided c w n ps g zs
+looking-end {w} {n} {ps} {c} {xs} {i} {above} {below} {zs} v h eg =
     let none : drop i (rows w n ps) ≡ [] = drop-of-length-le (rows w n ps) {i = i} (omega (arith, rows-length w n ps)) in
     let u : tally (higher c) (rows w n ps) ≡ above = v .up ∙ rw none (omega arith) in
     let d : tally (lower c) (rows w n ps) ≡ below = v .down ∙ rw none (omega arith) in
-    let s = side-by-tally c (rows w n ps) (omega (arith, rows-length w n ps)) in
-    record { section = rw eg (rw (u, d, rows-length w n ps) at s); distances = λ k o. v .written k (omega arith) }
+    let s = side-by-tally c (rows w n ps) in
+    record { side = rw eg (rw (u, d, rows-length w n ps) at s); distances = λ k o. v .written k (omega arith) }

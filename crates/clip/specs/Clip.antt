@@ -19,8 +19,8 @@ pub record Cut : Type 0 where
   pub tol : Float
 
 -- tol times tol, which squared distances are compared with
-abbrev pub tol2 : Cut → Float
-tol2 c = mul binary64 (c .tol) (c .tol)
+abbrev pub tolSquared : Cut → Float
+tolSquared c = mul binary64 (c .tol) (c .tol)
 
 -- the distance of a point p from the cut: the sum of (p - origin) times normal
 abbrev pub away : Cut → Vector → Float
@@ -101,70 +101,70 @@ unfolding le neg mul dotFrom sub planeIntersection
 clipSides c s [] = []
 clipSides c s (e ∷ es) = clipSide c s e ++ clipSides c s es
 
--- ---- the points that are kept; t is tol times tol
+-- ---- the points that are kept; tol2 is tol times tol
 
--- the first point, or one whose squared distance to the last kept is above t
+-- the first point, or one whose squared distance to the last kept is above tol2
 abbrev pub unique : Float → List Vector → Vector → Bool
-unique t k p = eqb (length k) 0 || lt t (dist2 (getD k (length k - 1) []) p)
+unique tol2 k p = eqb (length k) 0 || lt tol2 (dist2 (getD k (length k - 1) []) p)
 
 -- a point after those kept, if it is unique; a NaN distance skips it
 unfoldable pub pushUnique : Float → List Vector → Vector → List Vector
 unfolding lt dotFrom sub
-pushUnique t k p = cond (unique t k p) (k ++ p ∷ []) k
+pushUnique tol2 k p = cond (unique tol2 k p) (k ++ p ∷ []) k
 
 -- several points, one after the other
 unfoldable pub pushAll : Float → List Vector → List Vector → List Vector
 unfolding pushUnique
-pushAll t k [] = k
-pushAll t k (p ∷ ps) = pushAll t (pushUnique t k p) ps
+pushAll tol2 k [] = k
+pushAll tol2 k (p ∷ ps) = pushAll tol2 (pushUnique tol2 k p) ps
 
 -- the clipped points of a polygon
 abbrev pub clipped : Cut → Float → List Vector → List Vector
-clipped c s ps = pushAll (tol2 c) [] (clipSides c s (edges ps))
+clipped c s ps = pushAll (tolSquared c) [] (clipSides c s (edges ps))
 
--- with more than one point, the last is removed, once, if its squared distance to the first is at most t; NaN does not remove it
+-- with more than one point, the last is removed, once, if its squared distance to the first is at most tol2; NaN does not remove it
 unfoldable pub withoutClosing : Float → List Vector → List Vector
 unfolding le dotFrom sub
-withoutClosing t k =
+withoutClosing tol2 k =
     let n = length k in
-    cond (ltb 1 n && le (dist2 (getD k 0 []) (getD k (n - 1) [])) t) (take (n - 1) k) k
+    cond (ltb 1 n && le (dist2 (getD k 0 []) (getD k (n - 1) [])) tol2) (take (n - 1) k) k
 
 -- ---- the segments
 
--- both ends within tol of the cut, at a squared distance above t
+-- both ends within tol of the cut, at a squared distance above tol2
 abbrev pub liesOn : Cut → Float → Seg → Bool
-liesOn c t (seg a b) = (le (abs (away c a)) (c .tol) && le (abs (away c b)) (c .tol)) && lt t (dist2 a b)
+liesOn c tol2 (seg a b) = (le (abs (away c a)) (c .tol) && le (abs (away c b)) (c .tol)) && lt tol2 (dist2 a b)
 
--- the ends of one within squared distance t of those of the other, either way round
+-- the ends of one within squared distance tol2 of those of the other, either way round
 abbrev pub alike : Float → Seg → Seg → Bool
-alike t (seg p q) (seg a b) = (le (dist2 p a) t && le (dist2 q b) t) || (le (dist2 p b) t && le (dist2 q a) t)
+alike tol2 (seg p q) (seg a b) = (le (dist2 p a) tol2 && le (dist2 q b) tol2) || (le (dist2 p b) tol2 && le (dist2 q a) tol2)
 
 -- an earlier segment is alike
 unfoldable pub duplicate : Float → List Seg → Seg → Bool
 unfolding le dotFrom sub
-duplicate t [] e = false
-duplicate t (f ∷ fs) e = alike t f e || duplicate t fs e
+duplicate tol2 [] e = false
+duplicate tol2 (f ∷ fs) e = alike tol2 f e || duplicate tol2 fs e
 
 -- a segment after those listed, if it lies on the cut and is no duplicate
 unfoldable pub pushSegment : Cut → Float → List Seg → Seg → List Seg
 unfolding duplicate le lt abs dotFrom sub
-pushSegment c t fs e = cond (liesOn c t e && not (duplicate t fs e)) (fs ++ e ∷ []) fs
+pushSegment c tol2 fs e = cond (liesOn c tol2 e && not (duplicate tol2 fs e)) (fs ++ e ∷ []) fs
 
 -- several segments, one after the other
 unfoldable pub pushSegments : Cut → Float → List Seg → List Seg → List Seg
 unfolding pushSegment
-pushSegments c t fs [] = fs
-pushSegments c t fs (e ∷ es) = pushSegments c t (pushSegment c t fs e) es
+pushSegments c tol2 fs [] = fs
+pushSegments c tol2 fs (e ∷ es) = pushSegments c tol2 (pushSegment c tol2 fs e) es
 
 -- the segments of the points left: none of under two, else the cyclic pairs that are pushed
 abbrev pub segments : Cut → List Vector → List Seg
-segments c k = cond (ltb (length k) 2) [] (pushSegments c (tol2 c) [] (edges k))
+segments c k = cond (ltb (length k) 2) [] (pushSegments c (tolSquared c) [] (edges k))
 
 -- ---- the whole
 
 -- the segments of a polygon clipped with the sign s
 abbrev pub sectionOn : Cut → Float → List Vector → List Seg
-sectionOn c s ps = segments c (withoutClosing (tol2 c) (clipped c s ps))
+sectionOn c s ps = segments c (withoutClosing (tolSquared c) (clipped c s ps))
 
 -- the sign is 1 above, -1 below
 abbrev pub bySide : Cut → List Vector → Side → List Seg

@@ -1,18 +1,19 @@
-// Polygons in the plane, cut by a line: the functions of `space`, one width less.
+// Polygons in the plane, cut by a line. Written from space.rt by tools/widths: change that, and run it.
 ghost use mathlib.Core.Path.{_≡_};
 ghost use mathlib.Core.List.{[]};
 ghost use Prim.Native.Nat.{_+_, _*_, _<_, _≤_};
 ghost use lib.ListN.{length};
 ghost use Rattle.vector.specs.Rows.{rows, seg, segs};
 ghost use Rattle.vector.specs.View.{vec2};
-ghost use Rattle.clip.specs.Clip.{alike, clipEdge, clipSides, duplicate, edges, liesOn, planeIntersection};
-ghost use Rattle.clip.specs.Clip.{planeSectionSegments, pushAll, pushSegment, pushSegments, pushUnique, withoutClosing};
+ghost use Rattle.clip.specs.Clip.{alike, duplicate, edges, liesOn, pushAll, pushSegment, pushSegments, pushUnique, withoutClosing};
 ghost use Rattle.clip.specs.Cell.{atMost};
-ghost use Rattle.clip.specs.Code.{Distances, Points, Segments, Sided};
+ghost use Rattle.clip.specs.Code.{Crossed, Distances, EdgeClipped, FaceCut, Points, PolygonClipped, Segments, Sided};
 ghost use Rattle.clip.specs.View.{cut2, points2};
+use crate::Clipped;
+use crate::Found;
 use crate::Side;
 use crate::both_at_most;
-use crate::counted;
+use crate::count_if;
 use crate::next_of;
 use crate::ratio;
 use crate::side_of;
@@ -36,7 +37,17 @@ pub enum Clip {
     Two(Vec2, Vec2),
 }
 
-// Intersection of a polygon of n corners with the cut: its segments, written to out. Gives how many there are.
+// The point where a directed edge meets the cut.
+pub struct Crossing {
+    pub point: Vec2,
+}
+
+// What a directed edge gives.
+pub struct Clipping {
+    pub clip: Clip,
+}
+
+// Intersection of a polygon of n corners with the cut: its segments, written to out.
 //
 // The polygon is clipped to one side of the cut, and the boundary edges that lie on the cut are kept. This
 // handles concave polygons too, and yields one segment per crossing interval. What the scratch `points` holds
@@ -47,32 +58,33 @@ pub fn plane_section_segments(
     cut: Cut,
     points: &mut [f64],
     out: &mut [f64],
-) -> usize
+) -> Found
     requires { ⌜ (2 * n ≤ length (now poly)) × (2 * atMost n ≤ length (now points))
         × (4 * atMost n ≤ length (now out)) ⌝ }
-    ensures { λ r. ⌜ Segments 2 (now (out .entry))
-        (planeSectionSegments (cut2 cut) (rows 2 n (now (poly .entry)))) r (now (out .exit)) ⌝ }
+    ensures { λ r. ⌜ FaceCut 2 (cut2 cut) (rows 2 n (now (poly .entry))) (now (out .entry)) r (now (out .exit)) ⌝ }
 {
     if n < 3 {
-        return 0;
+        return Found { segments: 0 };
     }
     let sign = kept_side(poly, n, cut, points).sign();
     if sign == 0.0 {
-        return 0;
+        return Found { segments: 0 };
     }
     let tol2 = cut.tol * cut.tol;
     let clipped = clip_polygon(poly, n, cut, sign, tol2, points);
-    let m = without_closing(points, clipped, tol2);
+    let m = without_closing(points, clipped.points, tol2);
     if m < 2 {
-        return 0;
+        return Found { segments: 0 };
     }
-    segments(points, m, cut, tol2, out)
+    Found {
+        segments: segments(points, m, cut, tol2, out),
+    }
 }
 
 // The side that holds the polygon's interior: above if any corner is, else below if any is; and neither if the face
 // is clear of the cut, so that it has no section. Leaves the distances of the corners in the last places of points.
 fn kept_side(poly: &[f64], n: usize, cut: Cut, points: &mut [f64]) -> Side
-    requires { ⌜ (3 ≤ n) × (2 * n ≤ length (now poly)) × (n ≤ length (now points)) ⌝ }
+    requires { ⌜ (2 * n ≤ length (now poly)) × (n ≤ length (now points)) ⌝ }
     ensures { λ r. ⌜ Sided (cut2 cut) 2 n (now (poly .entry)) r (now (points .exit)) ⌝ }
 {
     let at = points.len() - n;
@@ -82,20 +94,26 @@ fn kept_side(poly: &[f64], n: usize, cut: Cut, points: &mut [f64]) -> Side
     while i < n {
         let d = point2(poly, i).distance(cut.origin, cut.normal);
         points[at + i] = d;
-        above = counted(above, d > cut.tol);
-        below = counted(below, d < -cut.tol);
+        above = count_if(above, d > cut.tol);
+        below = count_if(below, d < -cut.tol);
         i += 1;
     }
     side_of(above, below, n, cut.tol)
 }
 
-// The clipped points of the polygon, written to points. Gives how many there are. The distances of the corners stand
-// in the last places of points, and each is read before a point can be written there.
-fn clip_polygon(poly: &[f64], n: usize, cut: Cut, sign: f64, tol2: f64, points: &mut [f64]) -> usize
+// The clipped points of the polygon, written to points. The distances of the corners stand in the last places of
+// points, and each is read before a point can be written there.
+fn clip_polygon(
+    poly: &[f64],
+    n: usize,
+    cut: Cut,
+    sign: f64,
+    tol2: f64,
+    points: &mut [f64],
+) -> Clipped
     requires { ⌜ (0 < n) × (2 * n ≤ length (now poly)) × (2 * atMost n ≤ length (now points))
         × Distances (cut2 cut) 2 n (now poly) (now points) ⌝ }
-    ensures { λ r. ⌜ Points 2 (now (points .entry))
-        (pushAll tol2 [] (clipSides (cut2 cut) sign (edges (rows 2 n (now (poly .entry)))))) r
+    ensures { λ r. ⌜ PolygonClipped 2 (cut2 cut) sign tol2 (rows 2 n (now (poly .entry))) (now (points .entry)) r
         (now (points .exit)) ⌝ }
 {
     let at = points.len() - n;
@@ -107,40 +125,52 @@ fn clip_polygon(poly: &[f64], n: usize, cut: Cut, sign: f64, tol2: f64, points: 
     while i < n {
         let b = point2(poly, next_of(i, n));
         let db = signed_at(points, at + i + 1, sign, first);
-        m = push_clip(points, m, clip_edge(a, da, b, db, cut), tol2);
+        let edge = clip_edge(a, da, b, db, cut);
+        let clip = edge.clip;
+        m = push_clip(points, m, clip, tol2);
         a = b;
         da = db;
         i += 1;
     }
-    m
+    Clipped { points: m }
 }
 
 // What the edge from a to b gives, by the signed distances da and db.
-fn clip_edge(a: Vec2, da: f64, b: Vec2, db: f64, cut: Cut) -> Clip
-    ensures { λ r. ⌜ points2 r ≡ clipEdge (cut2 cut) (vec2 a) da (vec2 b) db ⌝ }
+fn clip_edge(a: Vec2, da: f64, b: Vec2, db: f64, cut: Cut) -> Clipping
+    ensures { λ r. ⌜ EdgeClipped (cut2 cut) (vec2 a) da (vec2 b) db (points2 (r .clip)) ⌝ }
 {
     let low = -cut.tol;
     if da >= low {
         if db >= low {
-            return Clip::One(b);
+            return Clipping { clip: Clip::One(b) };
         }
-        return Clip::One(plane_intersection(a, da, b, db, cut));
+        let x = plane_intersection(a, da, b, db, cut);
+        let p = x.point;
+        return Clipping { clip: Clip::One(p) };
     }
     if db >= low {
-        return Clip::Two(plane_intersection(a, da, b, db, cut), b);
+        let x = plane_intersection(a, da, b, db, cut);
+        let p = x.point;
+        return Clipping {
+            clip: Clip::Two(p, b),
+        };
     }
-    Clip::Nothing
+    Clipping {
+        clip: Clip::Nothing,
+    }
 }
 
 // Where the edge from a to b meets the cut, moved onto the cut to remove the interpolation error.
-fn plane_intersection(a: Vec2, da: f64, b: Vec2, db: f64, cut: Cut) -> Vec2
-    ensures { λ r. ⌜ vec2 r ≡ planeIntersection (cut2 cut) (vec2 a) da (vec2 b) db ⌝ }
+fn plane_intersection(a: Vec2, da: f64, b: Vec2, db: f64, cut: Cut) -> Crossing
+    ensures { λ r. ⌜ Crossed (cut2 cut) (vec2 a) da (vec2 b) db (vec2 (r .point)) ⌝ }
 {
     let t = ratio(da, db);
     let p = a.plus(b.minus(a).scaled(t));
     let d = p.distance(cut.origin, cut.normal);
     let n = cut.normal;
-    p.minus(n.scaled(d))
+    Crossing {
+        point: p.minus(n.scaled(d)),
+    }
 }
 
 // Pushes the points of an edge after the m there are. Gives how many there are then.

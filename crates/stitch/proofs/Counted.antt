@@ -11,24 +11,24 @@ use Rattle.stitch.specs.declared.Kind.{Kind}
 use Rattle.stitch.specs.declared.Kind.the-variants.{Loop, Flat, Open}
 use Rattle.stitch.specs.declared.Rule.{Rule}
 use Rattle.stitch.specs.Walk.{Walk}
-use Rattle.stitch.specs.Stitch.{kind, isLoop, inWalks, counted, countsFrom, unwalked, countsOf}
+use Rattle.stitch.specs.Stitch.{kind, isLoop, inWalks, plusWalk, countsFrom, unwalked, countsOf}
 use Rattle.stitch.specs.Claim.{edgesWalked}
 
 -- ---- one walk more
-counted-listed : (κ : Kind) (n : ℕ) (c : Counts) → counted κ n c .listed ≡ c .listed
-counted-listed Loop n c = refl
-counted-listed Flat n c = refl
-counted-listed Open n c = refl
+plus-listed : (κ : Kind) (n : ℕ) (c : Counts) → plusWalk κ n c .listed ≡ c .listed
+plus-listed Loop n c = refl
+plus-listed Flat n c = refl
+plus-listed Open n c = refl
 
-pub counted-in-walks : (κ : Kind) (n : ℕ) (c : Counts) → inWalks (counted κ n c) ≡ inWalks c + n
-counted-in-walks Loop n c = omega arith
-counted-in-walks Flat n c = omega arith
-counted-in-walks Open n c = omega arith
+pub plus-in-walks : (κ : Kind) (n : ℕ) (c : Counts) → inWalks (plusWalk κ n c) ≡ inWalks c + n
+plus-in-walks Loop n c = omega arith
+plus-in-walks Flat n c = omega arith
+plus-in-walks Open n c = omega arith
 
-pub counted-in-loops : (κ : Kind) (n : ℕ) (c : Counts) → counted κ n c .«in_loops» ≡ cond (isLoop κ) (c .«in_loops» + n) (c .«in_loops»)
-counted-in-loops Loop n c = refl
-counted-in-loops Flat n c = refl
-counted-in-loops Open n c = refl
+pub plus-in-loops : (κ : Kind) (n : ℕ) (c : Counts) → plusWalk κ n c .«in_loops» ≡ cond (isLoop κ) (c .«in_loops» + n) (c .«in_loops»)
+plus-in-loops Loop n c = refl
+plus-in-loops Flat n c = refl
+plus-in-loops Open n c = refl
 
 -- ---- all walks
 module _ (ps : List Vector) (rule : Rule) where
@@ -38,7 +38,7 @@ module _ (ps : List Vector) (rule : Rule) where
   from-listed c (w ∷ ws) =
       let κ = kind ps rule w in
       let n = length (w .edges) in
-      from-listed (counted κ n c) ws ∙ counted-listed κ n c
+      from-listed (plusWalk κ n c) ws ∙ plus-listed κ n c
 
   from-in-walks : (c : Counts) (ws : List Walk) → inWalks (countsFrom ps rule c ws) ≡ inWalks c + length (edgesWalked ws)
   unfolding countsFrom
@@ -46,8 +46,8 @@ module _ (ps : List Vector) (rule : Rule) where
   from-in-walks c (w ∷ ws) =
       let κ = kind ps rule w in
       let n = length (w .edges) in
-      let i = from-in-walks (counted κ n c) ws in
-      let a = counted-in-walks κ n c in
+      let i = from-in-walks (plusWalk κ n c) ws in
+      let a = plus-in-walks κ n c in
       let l = length-append (w .edges) (edgesWalked ws) in
       omega arith
 

@@ -12,7 +12,7 @@ use Rattle.stitch.specs.declared.Counts.{Counts}
 use Rattle.stitch.specs.declared.Kind.the-variants.{Loop, Flat, Open}
 use Rattle.stitch.specs.declared.Rule.{Rule}
 use Rattle.stitch.specs.declared.Tally.{Tally}
-use Rattle.stitch.specs.Stitch.{signedArea, kindBy, counted, turned}
+use Rattle.stitch.specs.Stitch.{signedArea, kindBy, plusWalk, turned}
 use Rattle.stitch.specs.Code.{Finished, edgesIn}
 use Rattle.stitch.proofs.Loops.{turned-length}
 
@@ -23,7 +23,7 @@ module _ (ps : List Vector) (rule : Rule) (walked : List ℕ) (closed : Bool) (t
       Finished (kindBy ps rule closed walked) (turned ps walked) (edgesIn closed (length walked)) tally nodes ends
       (record { loops = l; counts = d }) nodes′ ends′
 
-  pub finish-open : {c : Counts} → closed ≡ false → c ≡ counted Open (length walked - 1) (tally .counts) → Ends (tally .loops) c nodes ends
+  pub finish-open : {c : Counts} → closed ≡ false → c ≡ plusWalk Open (length walked - 1) (tally .counts) → Ends (tally .loops) c nodes ends
   unfolding kindBy
   finish-open e q = rw (e, q) (record { tally-is = refl; nodes-are = refl; ends-are = refl })
 
@@ -31,11 +31,11 @@ module _ (ps : List Vector) (rule : Rule) (walked : List ℕ) (closed : Bool) (t
     large : lt (rule .tol2) (abs (signedArea ps walked)) ≡ lt (rule .tol2) size
     large = ap (λ (x : Float). lt (rule .tol2) (abs x)) (sym ea) ∙ ap (lt (rule .tol2)) (sym es)
 
-    pub finish-flat : {c : Counts} → lt (rule .tol2) size ≡ false → c ≡ counted Flat (length walked) (tally .counts) → Ends (tally .loops) c nodes ends
+    pub finish-flat : {c : Counts} → lt (rule .tol2) size ≡ false → c ≡ plusWalk Flat (length walked) (tally .counts) → Ends (tally .loops) c nodes ends
     unfolding kindBy
     finish-flat e q = rw (back, large, e, q) (record { tally-is = refl; nodes-are = refl; ends-are = refl })
 
-    pub finish-loop : {c : Counts} (nodes′ : List ℕ) → lt (rule .tol2) size ≡ true → c ≡ counted Loop (length walked) (tally .counts)
+    pub finish-loop : {c : Counts} (nodes′ : List ℕ) → lt (rule .tol2) size ≡ true → c ≡ plusWalk Loop (length walked) (tally .counts)
         → nodes′ ≡ paste nodes (tally .counts .«in_loops») (cond (lt area f0) (reverse walked) walked) (length walked)
         → Ends (tally .loops + 1) c nodes′ (set ends (tally .loops) (tally .counts .«in_loops» + length walked))
     unfolding kindBy turned

@@ -1,7 +1,7 @@
 -- Two different points form a listed edge exactly when the two ends of some segment become them. Assumes nothing.
 use mathlib.Core.Path.{_≡_, refl, ap, sym, _∙_}
 use mathlib.Core.List.{List, [], _∷_, _++_}
-use mathlib.Core.Bool.{Bool, true, false, cond, _&&_, _||_}
+use mathlib.Core.Bool.{Bool, true, false, cond, _&&_, _||_, or-assoc, or-false}
 use Prim.Native.Nat.{ℕ, _≤_, _<_, min, max}
 use mathlib.Core.Logic.{_⊎_, inl, inr}
 use native.Mathlib.Nat.{le-of-lt}
@@ -69,14 +69,6 @@ or-idle true y h = refl
 or-idle false true h = sym (h refl)
 or-idle false false h = refl
 
-or-assoc : (x y z : Bool) → ((x || y) || z) ≡ (x || (y || z))
-or-assoc true y z = refl
-or-assoc false y z = refl
-
-or-false : (x : Bool) → (x || false) ≡ x
-or-false true = refl
-or-false false = refl
-
 module _ (p q : ℕ) (apart : p ≡ q → ⊥) where
   -- two pairs have the same edge exactly when they are the same two points
   same-meets : (a b : ℕ) → same (between p q) (between a b) ≡ meets p q a b
@@ -136,7 +128,7 @@ module _ (p q : ℕ) (apart : p ≡ q → ⊥) where
       ∙ ap (λ (x : Bool). x || someBecome p q l) (add-listed a b es)
       ∙ or-assoc (listed (between p q) es) (meets p q a b) (someBecome p q l)
 
-pub listed-when : (t : Float) (ss : List Seg) (p q : ℕ) → (p ≡ q → ⊥)
-    → listed (between p q) (listedEdges t ss) ≡ someBecome p q (becomes t ss [])
+pub listed-when : (tol2 : Float) (ss : List Seg) (p q : ℕ) → (p ≡ q → ⊥)
+    → listed (between p q) (listedEdges tol2 ss) ≡ someBecome p q (becomes tol2 ss [])
 unfolding listed
-listed-when t ss p q d = edges-listed p q d (becomes t ss []) []
+listed-when tol2 ss p q d = edges-listed p q d (becomes tol2 ss []) []

@@ -1,6 +1,6 @@
 -- The loops returned: their sides are edges of the walks, reversed or not, so each is listed and none is used twice. Assumes nothing.
 use mathlib.Core.Path.{_≡_, refl, ap, sym, _∙_, subst}
-use mathlib.Core.List.{List, [], _∷_, _++_, map, reverse, reverseAux, flatten}
+use mathlib.Core.List.{List, [], _∷_, _++_, map, map-append, reverse, reverseAux, flatten}
 use mathlib.Core.Bool.{Bool, true, false, false≢true, cond}
 use Prim.Native.Nat.{ℕ, suc, _+_, _*_, _≤_, _<_}
 use native.Mathlib.Nat.{not-suc-le-zero}
@@ -20,10 +20,6 @@ use Rattle.stitch.specs.Claim.{bit, times, timesEdge, All, edgesWalked, 
 use Rattle.stitch.specs.Code.{edgesIn}
 use Rattle.stitch.proofs.Lists.{all-map, Fair, fair-head, fair-tail, fair-apart}
 use Rattle.stitch.proofs.Joined.{Sound, sound-three}
-
-map-append : {A B : Type 0} (f : A → B) (l m : List A) → map f (l ++ m) ≡ map f l ++ map f m
-map-append f [] m = refl
-map-append f (x ∷ l) m = rw (map-append f l m)
 
 times-edges : (e : Edge) (l m : List Edge) → timesEdge e (l ++ m) ≡ timesEdge e l + timesEdge e m
 times-edges e [] m = omega arith

@@ -6,7 +6,7 @@ use Prim.Native.Nat.{ℕ, suc, _+_, _≤_, _<_}
 use native.Mathlib.Numerals.{add-one}
 use native.Mathlib.Omega.{arith}
 use lib.Ieee.{Float}
-use lib.ListN.{length, getD, set, take, drop, replicate, length-append, length-drop, length-replicate, drop-of-length-le}
+use lib.ListN.{length, getD, set, take, drop, replicate, length-append, length-replicate, drop-of-length-le}
 use lib.Seq.{drop-cons, drop-drop, drop-append-add, take-append-seam, take-length, set-append-seam, paste}
 use Rattle.vector.specs.Vector.{Vector}
 use Rattle.vector.specs.Rows.{rows, over, endsFrom}
@@ -16,12 +16,12 @@ use Rattle.weld.proofs.Lists.{edges-length}
 use Rattle.stitch.specs.declared.Rule.{Rule}
 use Rattle.stitch.specs.declared.Tally.{Tally}
 use Rattle.stitch.specs.Walk.{noEdge, Walk, walkFrom, walksFrom, walks}
-use Rattle.stitch.specs.Stitch.{kind, isLoop, turned, loops, inWalks, counted, countsFrom, unwalked, countsOf}
-use Rattle.stitch.specs.Code.{unused, Finished, Ready, Spare, Counting, Turn, Wrote}
+use Rattle.stitch.specs.Stitch.{kind, isLoop, turned, loops, inWalks, plusWalk, countsFrom, unwalked, countsOf}
+use Rattle.stitch.specs.Code.{unused, Finished, Marked, Spare, Counting, Turn, Wrote}
 use Rattle.stitch.proofs.Marks.{fresh-unused}
 use Rattle.stitch.proofs.Once.{walk-left, walk-length}
 use Rattle.stitch.proofs.Loops.{turned-length, loop-closed}
-use Rattle.stitch.proofs.Counted.{counted-in-walks, counted-in-loops}
+use Rattle.stitch.proofs.Counted.{plus-in-walks, plus-in-loops}
 use Rattle.stitch.proofs.Turns.{Fit, loop-fits}
 
 -- ---- writing over the start of a buffer, and then more
@@ -39,9 +39,6 @@ over-set a xs v h =
     ap (λ (x : List ℕ). set (a ++ x) (length a) v) (drop-cons xs (length a) 0 h)
     ∙ set-append-seam a (getD xs (length a) 0) (drop (suc (length a)) xs) v
     ∙ sym (append-assoc a (v ∷ []) (drop (length (a ++ v ∷ [])) xs) ∙ ap (λ (k : ℕ). a ++ v ∷ drop k xs) e)
-
-over-length : (a xs : List ℕ) → length a ≤ length xs → length (over a xs) ≡ length xs
-over-length a xs h = length-append a (drop (length a) xs) ∙ let d = length-drop (length a) xs in omega arith
 
 -- ---- one loop more
 flatten-snoc : (ls : List (List ℕ)) (l : List ℕ) → flatten (ls ++ l ∷ []) ≡ flatten ls ++ l
@@ -158,12 +155,12 @@ module _ (ps : List Vector) (es : List Edge) (rule : Rule) (m : ℕ) (ws : List 
     before : Stitching ps rule m ws (w ∷ v) us tally nodes nodes′ ends ends′
     before = rw (left-free ps es k h us free) at g
 
-    left : inWalks (counted (kind ps rule w) (length (w .edges)) (tally .counts)) + unused (w .used) ≤ length (w .used)
+    left : inWalks (plusWalk (kind ps rule w) (length (w .edges)) (tally .counts)) + unused (w .used) ≤ length (w .used)
     left =
         let a = walk-left ps es k us free in
         let b = walk-length ps es k us free in
         let c = before .counting .left in
-        let d = counted-in-walks (kind ps rule w) (length (w .edges)) (tally .counts) in
+        let d = plus-in-walks (kind ps rule w) (length (w .edges)) (tally .counts) in
         omega arith
 
     -- the walk is not returned, of whatever kind it is
@@ -171,7 +168,7 @@ module _ (ps : List Vector) (es : List Edge) (rule : Rule) (m : ℕ) (ws : List 
     unfolding loops countsFrom
     step-other e =
         let b = before in
-        let i = rw e at (counted-in-loops (kind ps rule w) (length (w .edges)) (tally .counts)) in
+        let i = rw e at (plus-in-loops (kind ps rule w) (length (w .edges)) (tally .counts)) in
         rw (f .tally-is, f .nodes-are, f .ends-are, e)
         (record {
           done = b .done;
@@ -191,7 +188,7 @@ module _ (ps : List Vector) (es : List Edge) (rule : Rule) (m : ℕ) (ws : List 
         let l = turned ps (w .nodes) in
         let ll : length l ≡ length (w .edges) = turned-length ps (w .nodes) ∙ fit .same in
         let done = b .done in
-        let i = rw e at (counted-in-loops (kind ps rule w) (length (w .edges)) (tally .counts)) in
+        let i = rw e at (plus-in-loops (kind ps rule w) (length (w .edges)) (tally .counts)) in
         rw (f .tally-is, f .nodes-are, f .ends-are, e)
         (record {
           done = done ++ l ∷ [];
@@ -248,9 +245,9 @@ looping-start n zs xs ys rule us walked nodes ends s e =
 module _ (n : ℕ) (zs : List Float) (xs ys : List ℕ) (rule : Rule) (us₀ : List Bool) (walked₀ nodes₀ ends₀ : List ℕ)
     (us : List Bool) (walked nodes ends : List ℕ) (tally : Tally) (k : ℕ)
     (g : Looping n zs xs ys rule us₀ walked₀ nodes₀ ends₀ us walked nodes ends tally k)
-    (ready₀ : Ready n zs xs ys us₀) (spare₀ : Spare (edgesOf xs ys) walked₀ nodes₀ ends₀) where
-  pub looping-ready : Ready n zs xs ys us
-  looping-ready = record { ends = ready₀ .ends; marks = g .marks ∙ ready₀ .marks }
+    (marked₀ : Marked n zs xs ys us₀) (spare₀ : Spare (edgesOf xs ys) walked₀ nodes₀ ends₀) where
+  pub looping-marked : Marked n zs xs ys us
+  looping-marked = record { ends = marked₀ .ends; marks = g .marks ∙ marked₀ .marks }
 
   pub looping-spare : Spare (edgesOf xs ys) walked nodes ends
   looping-spare =
@@ -271,7 +268,7 @@ module _ (n : ℕ) (zs : List Float) (xs ys : List ℕ) (rule : Rule) (us₀ : L
       → Turn (rows 2 n zs) (edgesOf xs ys) rule k (getD us k true) us tally nodes ends us′ r nodes′ ends′
       → Looping n zs xs ys rule us₀ walked₀ nodes₀ ends₀ us′ walked′ nodes′ ends′ r (k + 1)
   looping-step h us′ walked′ nodes′ ends′ r lu lw ln le u =
-      let m = edges-length xs ys (ready₀ .ends .same) in
+      let m = edges-length xs ys (marked₀ .ends .same) in
       record {
         within = omega arith;
         marks = lu ∙ g .marks;
@@ -282,13 +279,13 @@ module _ (n : ℕ) (zs : List Float) (xs ys : List ℕ) (rule : Rule) (us₀ : L
             stitching-step (rows 2 n zs) (edgesOf xs ys) rule (length xs) (walks (rows 2 n zs) (edgesOf xs ys)) k us tally nodes₀ nodes ends₀ ends
             (g .so-far) (omega arith) us′ r nodes′ ends′ (getD us k true) refl
             (λ f c.
-            let o = loop-fits n zs xs ys us k tally walked nodes ends looping-ready looping-spare (g .so-far .counting) h f c in
+            let o = loop-fits n zs xs ys us k tally walked nodes ends looping-marked looping-spare (g .so-far .counting) h f c in
             record { for-end = (let q = g .ends-length′ in omega (arith, o .for-end)); same = o .same; three = o .three })
             u;
       }
 
   pub looping-end : length xs ≤ k → Wrote (rows 2 n zs) rule (length xs) (walks (rows 2 n zs) (edgesOf xs ys)) tally nodes₀ nodes ends₀ ends
   looping-end h =
-      let m = edges-length xs ys (ready₀ .ends .same) in
+      let m = edges-length xs ys (marked₀ .ends .same) in
       stitching-end (rows 2 n zs) (edgesOf xs ys) rule (length xs) (walks (rows 2 n zs) (edgesOf xs ys)) k us tally nodes₀ nodes ends₀ ends
       (g .so-far) (omega arith)

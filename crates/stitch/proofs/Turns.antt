@@ -19,11 +19,11 @@ use Rattle.stitch.specs.declared.Rule.{Rule}
 use Rattle.stitch.specs.declared.Tally.{Tally}
 use Rattle.stitch.specs.Walk.{edgeAt, other, nextEdge, Walk, rest, walkFrom}
 use Rattle.stitch.specs.Stitch.{inWalks, kindBy, turned}
-use Rattle.stitch.specs.Code.{Ends, Ready, Went, Below, edgesIn, Finished, Finishing, Spare, Counting, Turn}
+use Rattle.stitch.specs.Code.{Ends, Marked, Went, Below, edgesIn, Finished, Finishing, Spare, Counting, Turn}
 use Rattle.stitch.proofs.Junction.{next-free}
 use Rattle.stitch.proofs.Once.{walk-left}
 use Rattle.stitch.proofs.Joined.{Sound, walk-sound, sound-three}
-use Rattle.stitch.proofs.Loops.{walk-edges}
+use Rattle.stitch.proofs.Loops.{closed-length, walk-edges}
 use Rattle.stitch.proofs.Buffers.{end-below}
 
 -- ---- a walk's nodes are points
@@ -75,16 +75,16 @@ pub record Fit (w : Walk) (tally : Tally) (ends : List ℕ) : Type 0 where
   pub three : 3 ≤ length (w .edges)
 
 module _ (n : ℕ) (zs : List Float) (xs ys : List ℕ) (us : List Bool) (k : ℕ) (tally : Tally) (walked nodes ends : List ℕ)
-    (ready : Ready n zs xs ys us) (spare : Spare (edgesOf xs ys) walked nodes ends) (counting : Counting tally us)
+    (marked : Marked n zs xs ys us) (spare : Spare (edgesOf xs ys) walked nodes ends) (counting : Counting tally us)
     (inside : k < length xs) (free : getD us k true ≡ false) where
   abbrev w : Walk
   w = walkFrom (rows 2 n zs) (edgesOf xs ys) k us
 
   count : length (edgesOf xs ys) ≡ length xs
-  count = edges-length xs ys (ready .ends .same)
+  count = edges-length xs ys (marked .ends .same)
 
   marks : length us ≡ length (edgesOf xs ys)
-  marks = ready .marks ∙ sym count
+  marks = marked .marks ∙ sym count
 
   sound : Sound (edgesOf xs ys) w
   sound = walk-sound (rows 2 n zs) (edgesOf xs ys) (spare .simple) k us free (let m = count in omega arith) marks
@@ -101,7 +101,7 @@ module _ (n : ℕ) (zs : List Float) (xs ys : List ℕ) (us : List Bool) (k : �
       by-case false e = omega arith
 
   closed-nodes : w .closed ≡ true → length (w .nodes) ≡ length (w .edges)
-  closed-nodes c = ap (λ (b : Bool). edgesIn b (length (w .nodes))) (sym c) ∙ walk-edges (edgesOf xs ys) w sound
+  closed-nodes c = closed-length (edgesOf xs ys) w sound c
 
   -- three edges more for one loop more
   room-for-end : w .closed ≡ true → tally .loops < length ends
@@ -136,9 +136,9 @@ module _ (n : ℕ) (zs : List Float) (xs ys : List ℕ) (us : List Bool) (k : �
         let m = marks in
         rw (went .nodes-are, went .closed-is)
         (record {
-          room = ready .ends .room;
+          room = marked .ends .room;
           some = omega arith;
-          below = walk-below (rows 2 n zs) (edgesOf xs ys) n (ends-within n zs xs ys (ready .ends)) k us (let o = count in omega arith);
+          below = walk-below (rows 2 n zs) (edgesOf xs ys) n (ends-within n zs xs ys (marked .ends)) k us (let o = count in omega arith);
           small = omega (arith, spare .few);
           nodes-room = λ c. (let e = closed-nodes c in omega (arith, spare .nodes-room));
           ends-room = room-for-end;

@@ -18,7 +18,7 @@ use Rattle.weld.proofs.Lists.{edges-length, edges-getD}
 use Rattle.stitch.specs.declared.Next.{Next}
 use Rattle.stitch.specs.declared.Next.the-variants as next
 use Rattle.stitch.specs.Walk.{edgeAt, other, nextEdge, Walk, onward, rest, walkFrom}
-use Rattle.stitch.specs.Code.{unused, Ends, Ready, Went}
+use Rattle.stitch.specs.Code.{unused, Ends, Marked, Went}
 use Rattle.stitch.proofs.Marks.{unused-le, unused-set}
 use Rattle.stitch.proofs.Junction.{Free, next-free}
 use Rattle.stitch.proofs.Buffers.{end-below}
@@ -130,7 +130,7 @@ walk-is ps xs ys k us e =
     let q : suc (length (edgesOf xs ys)) - 1 ≡ length (edgesOf xs ys) = omega arith in
     rw (edges-getD xs ys k e, q)
 
-pub going-start : (n : ℕ) (zs : List Float) (xs ys : List ℕ) (us : List Bool) (ns : List ℕ) (k : ℕ) → Ready n zs xs ys us → k < length xs
+pub going-start : (n : ℕ) (zs : List Float) (xs ys : List ℕ) (us : List Bool) (ns : List ℕ) (k : ℕ) → Marked n zs xs ys us → k < length xs
     → length xs < length ns → getD us k true ≡ false
     → Going n zs xs ys (getD xs k 0) (whole (rows 2 n zs) (edgesOf xs ys) (getD xs k 0) k (getD ys k 0) (set us k true))
     (length (set ns 0 (getD xs k 0))) (set us k true) (set ns 0 (getD xs k 0)) 1 (getD xs k 0) (getD ys k 0)
@@ -152,8 +152,8 @@ module _ (n : ℕ) (zs : List Float) (xs ys : List ℕ) (s : ℕ) (w : Walk) (ro
   pub in-buffer : m < length ns
   in-buffer = let q = g .left in let v = g .nodes in omega arith
 
-  pub ready : Ready n zs xs ys us
-  ready = record { ends = ends; marks = g .marks }
+  pub marked : Marked n zs xs ys us
+  marked = record { ends = ends; marks = g .marks }
 
   module _ (k : ℕ) (e : nextEdge (rows 2 n zs) (edgesOf xs ys) us p c ≡ next.Edge k) where
     free : Free c (edgesOf xs ys) us k

@@ -19,7 +19,7 @@ use Rattle.stitch.specs.declared.Stitched.{Stitched}
 use Rattle.stitch.specs.Walk.{walks}
 use Rattle.stitch.specs.Stitch.{loops, countsOf, Answer, stitchedWithin}
 use Rattle.stitch.specs.Claim.{Claim}
-use Rattle.stitch.specs.Code.{Ready, Spare, Wrote, Lent, Gave, cut, answerIn, Stitches}
+use Rattle.stitch.specs.Code.{Marked, Spare, Wrote, Stitchable, Answered, cut, answerIn, Stitches}
 use Rattle.stitch.proofs.Claim.{claim}
 use Rattle.stitch.proofs.Stitching.{ends-length}
 
@@ -55,7 +55,7 @@ cut-ends n (l ∷ ls) tail =
     )
 
 pub read-back : (a : Answer) (r : Stitched) (numbers numbers′ : List Float) (nodes nodes′ ends ends′ : List ℕ)
-    → Gave a r numbers numbers′ nodes nodes′ ends ends′ → answerIn r numbers′ nodes′ ends′ ≡ a
+    → Answered a r numbers numbers′ nodes nodes′ ends ends′ → answerIn r numbers′ nodes′ ends′ ≡ a
 read-back a r numbers numbers′ nodes nodes′ ends ends′ g =
     let m : length (endsFrom 0 (a .loops)) ≡ r .loops = ends-length 0 (a .loops) ∙ sym (g .loop-count) in
     let e : take (r .loops) ends′ ≡ endsFrom 0 (a .loops) =
@@ -67,7 +67,7 @@ read-back a r numbers numbers′ nodes nodes′ ends ends′ g =
 
 -- so the claim about the answer is one about what the buffers hold
 claimed : (rule : Rule) (ss : List Seg) (r : Stitched) (numbers numbers′ : List Float) (nodes nodes′ ends ends′ : List ℕ)
-    → Gave (stitchedWithin rule ss) r numbers numbers′ nodes nodes′ ends ends′ → Claim rule ss (answerIn r numbers′ nodes′ ends′)
+    → Answered (stitchedWithin rule ss) r numbers numbers′ nodes nodes′ ends ends′ → Claim rule ss (answerIn r numbers′ nodes′ ends′)
 claimed rule ss r numbers numbers′ nodes nodes′ ends ends′ g =
     subst (λ (a : Answer). Claim rule ss a) (sym (read-back (stitchedWithin rule ss) r numbers numbers′ nodes nodes′ ends ends′ g)) (claim rule ss)
 
@@ -76,12 +76,12 @@ pub record Walkable (n m : ℕ) (zs : List Float) (xs ys : List ℕ) (us : List 
   pub first-count : m ≡ length (take m xs)
   pub second-count : m ≡ length (take m ys)
   pub mark-count : m ≡ length (take m us)
-  pub ready : Ready n zs (take m xs) (take m ys) (take m us)
+  pub marked : Marked n zs (take m xs) (take m ys) (take m us)
   pub spare : Spare (edgesOf (take m xs) (take m ys)) walked nodes ends
   pub fresh : take m us ≡ replicate (length (take m xs)) false
 
 module _ (rule : Rule) (ss : List Float) (s : ℕ) (zs₀ : List Float) (n m : ℕ) (zs : List Float) (xs ys nodes ends : List ℕ)
-    (w : Welds (rule .tol2) ss s zs₀ n m zs xs ys) (lent : Lent s ss zs₀ nodes ends) (kept : length zs ≡ length zs₀)
+    (w : Welds (rule .tol2) ss s zs₀ n m zs xs ys) (lent : Stitchable s ss zs₀ nodes ends) (kept : length zs ≡ length zs₀)
     (same : length xs ≡ length ys) (room : s ≤ length xs) where
   few : m ≤ 384
   few = omega (arith, w .few-edges, lent .few)
@@ -95,8 +95,8 @@ module _ (rule : Rule) (ss : List Float) (s : ℕ) (zs₀ : List Float) (n m : �
   marks : m ≡ length (take m (replicate 384 false))
   marks = sym (ap length (fresh-part 384 m few) ∙ length-replicate m false)
 
-  welded-ready : Ready n zs (take m xs) (take m ys) (take m (replicate 384 false))
-  welded-ready =
+  welded-marked : Marked n zs (take m xs) (take m ys) (take m (replicate 384 false))
+  welded-marked =
       let a = first in
       let b = second in
       record {
@@ -137,7 +137,7 @@ module _ (rule : Rule) (ss : List Float) (s : ℕ) (zs₀ : List Float) (n m : �
         first-count = first;
         second-count = second;
         mark-count = marks;
-        ready = welded-ready;
+        marked = welded-marked;
         spare = welded-spare walked l;
         fresh = fresh-part 384 m few ∙ ap (λ (k : ℕ). replicate k false) first;
       })
@@ -149,13 +149,13 @@ module _ (rule : Rule) (ss : List Float) (s : ℕ) (zs₀ : List Float) (n m : �
       let l : length (take (2 * n) zs) ≡ 2 * n = length-take-le (2 * n) zs room in
       rw (first, l, ← w .rest) (sym (take-append-drop (2 * n) zs))
 
-  gave-answer : (tally : Tally) (nodes′ ends′ : List ℕ)
+  answered : (tally : Tally) (nodes′ ends′ : List ℕ)
       → Wrote (rows 2 n zs) rule (length (take m xs)) (walks (rows 2 n zs) (edgesOf (take m xs) (take m ys))) tally nodes nodes′ ends ends′
-      → Gave (stitchedWithin rule (segs 2 s ss))
+      → Answered (stitchedWithin rule (segs 2 s ss))
       (record { points = n; nodes = tally .counts .«in_loops»; loops = tally .loops; counts = tally .counts })
       zs₀ zs nodes nodes′ ends ends′
   unfolding stitchedWithin
-  gave-answer tally nodes′ ends′ o =
+  answered tally nodes′ ends′ o =
       let ps = weldedPoints (rule .tol2) (segs 2 s ss) in
       let es = listedEdges (rule .tol2) (segs 2 s ss) in
       let a = first in
@@ -171,11 +171,11 @@ module _ (rule : Rule) (ss : List Float) (s : ℕ) (zs₀ : List Float) (n m : �
         counts-are = ap (λ (k : ℕ). countsOf ps rule k (walks ps es)) edge-count ∙ p .counts-are;
       }
 
-  pub gave : (tally : Tally) (nodes′ ends′ : List ℕ)
+  pub stitches : (tally : Tally) (nodes′ ends′ : List ℕ)
       → Wrote (rows 2 n zs) rule (length (take m xs)) (walks (rows 2 n zs) (edgesOf (take m xs) (take m ys))) tally nodes nodes′ ends ends′
       → Stitches rule (segs 2 s ss)
       (record { points = n; nodes = tally .counts .«in_loops»; loops = tally .loops; counts = tally .counts })
       zs₀ zs nodes nodes′ ends ends′
-  gave tally nodes′ ends′ o =
-      let g = gave-answer tally nodes′ ends′ o in
+  stitches tally nodes′ ends′ o =
+      let g = answered tally nodes′ ends′ o in
       record { gave = g; claim = claimed rule (segs 2 s ss) _ zs₀ zs nodes nodes′ ends ends′ g }

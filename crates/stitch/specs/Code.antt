@@ -18,7 +18,7 @@ use Rattle.stitch.specs.declared.Kind.{Kind}
 use Rattle.stitch.specs.declared.Rule.{Rule}
 use Rattle.stitch.specs.declared.Tally.{Tally}
 use Rattle.stitch.specs.declared.Stitched.{Stitched}
-use Rattle.stitch.specs.Stitch.{kind, isLoop, turned, loops, inWalks, counted, countsOf, Answer, stitchedWithin}
+use Rattle.stitch.specs.Stitch.{kind, isLoop, turned, loops, inWalks, plusWalk, countsOf, Answer, stitchedWithin}
 use Rattle.stitch.specs.Claim.{Claim}
 
 -- how many marks are not set
@@ -34,7 +34,7 @@ pub record Ends (n : ℕ) (points : List Float) (smaller larger : List ℕ) : Ty
   pub within : (k : ℕ) → k < length smaller → (getD smaller k 0 < n) × (getD larger k 0 < n)
 
 -- the same with a mark for each edge
-pub record Ready (n : ℕ) (points : List Float) (smaller larger : List ℕ) (used : List Bool) : Type 0 where
+pub record Marked (n : ℕ) (points : List Float) (smaller larger : List ℕ) (used : List Bool) : Type 0 where
   pub ends : Ends n points smaller larger
   pub marks : length used ≡ length smaller
 
@@ -93,7 +93,7 @@ edgesIn false m = m - 1
 
 -- the tally with a walk more, of this kind and with m edges
 abbrev pub tallied : Kind → ℕ → Tally → Tally
-tallied κ m tally = record { loops = cond (isLoop κ) (tally .loops + 1) (tally .loops); counts = counted κ m (tally .counts) }
+tallied κ m tally = record { loops = cond (isLoop κ) (tally .loops + 1) (tally .loops); counts = plusWalk κ m (tally .counts) }
 
 -- a walk of this kind with the nodes l, as they are returned, and m edges has been ended
 pub record Finished (κ : Kind) (l : List ℕ) (m : ℕ) (tally : Tally) (nodes ends : List ℕ) (r : Tally) (nodes′ ends′ : List ℕ) : Type 0 where
@@ -148,7 +148,7 @@ pub record Wrote (ps : List Vector) (rule : Rule) (m : ℕ) (ws : List Walk) (r 
 -- ---- the answer
 
 -- the buffers of s segments: at most 384, with room for 2s points, s nodes and s / 3 ends
-pub record Lent (s : ℕ) (segments numbers : List Float) (nodes ends : List ℕ) : Type 0 where
+pub record Stitchable (s : ℕ) (segments numbers : List Float) (nodes ends : List ℕ) : Type 0 where
   pub given : 4 * s ≤ length segments
   pub few : s ≤ 384
   pub for-points : 4 * s ≤ length numbers
@@ -167,7 +167,7 @@ pub record Tables (s : ℕ) (smaller larger : List ℕ) (used : List Bool) (walk
 
 -- An answer has been given: its points, the nodes of its loops and their ends are written over the start of the buffers, whose
 -- remainder is as before, and its counts are returned.
-pub record Gave (a : Answer) (r : Stitched) (numbers numbers′ : List Float) (nodes nodes′ ends ends′ : List ℕ) : Type 0 where
+pub record Answered (a : Answer) (r : Stitched) (numbers numbers′ : List Float) (nodes nodes′ ends ends′ : List ℕ) : Type 0 where
   pub numbers-are : numbers′ ≡ over (flatten (a .points)) numbers
   pub points-are : rows 2 (r .points) numbers′ ≡ a .points
   pub nodes-are : nodes′ ≡ over (flatten (a .loops)) nodes
@@ -194,5 +194,5 @@ answerIn r numbers nodes ends =
 -- What stitching does: it gives the answer of the definition, and the claim of document 01 holds of what it gives.
 pub record Stitches (rule : Rule) (ss : List Seg) (r : Stitched) (numbers numbers′ : List Float) (nodes nodes′ ends ends′ : List ℕ) : Type 0
   where
-    pub gave : Gave (stitchedWithin rule ss) r numbers numbers′ nodes nodes′ ends ends′
+    pub gave : Answered (stitchedWithin rule ss) r numbers numbers′ nodes nodes′ ends ends′
     pub claim : Claim rule ss (answerIn r numbers′ nodes′ ends′)

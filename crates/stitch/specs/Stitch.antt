@@ -77,16 +77,16 @@ abbrev pub inWalks : Counts → ℕ
 inWalks c = c .«in_loops» + c .flat + c .opened
 
 -- counts with n edges more, in a walk of this kind
-abbrev pub counted : Kind → ℕ → Counts → Counts
-counted Loop n c = record { listed = c .listed; «in_loops» = c .«in_loops» + n; flat = c .flat; opened = c .opened }
-counted Flat n c = record { listed = c .listed; «in_loops» = c .«in_loops»; flat = c .flat + n; opened = c .opened }
-counted Open n c = record { listed = c .listed; «in_loops» = c .«in_loops»; flat = c .flat; opened = c .opened + n }
+abbrev pub plusWalk : Kind → ℕ → Counts → Counts
+plusWalk Loop n c = record { listed = c .listed; «in_loops» = c .«in_loops» + n; flat = c .flat; opened = c .opened }
+plusWalk Flat n c = record { listed = c .listed; «in_loops» = c .«in_loops»; flat = c .flat + n; opened = c .opened }
+plusWalk Open n c = record { listed = c .listed; «in_loops» = c .«in_loops»; flat = c .flat; opened = c .opened + n }
 
 -- the edges of each kind of walk, added to those counted before
 unfoldable pub countsFrom : List Vector → Rule → Counts → List Walk → Counts
 unfolding kindBy
 countsFrom ps rule c [] = c
-countsFrom ps rule c (w ∷ ws) = countsFrom ps rule (counted (kind ps rule w) (length (w .edges)) c) ws
+countsFrom ps rule c (w ∷ ws) = countsFrom ps rule (plusWalk (kind ps rule w) (length (w .edges)) c) ws
 
 -- n listed edges, none of them walked
 abbrev pub unwalked : ℕ → Counts

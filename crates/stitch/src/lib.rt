@@ -12,9 +12,9 @@ ghost use Rattle.vector.specs.Rows.{rows, segs};
 ghost use Rattle.vector.specs.View.{vec2};
 ghost use Rattle.weld.specs.Code.{edgesOf};
 ghost use Rattle.stitch.specs.Walk.{clamp, cosineTo, nextEdge, pointAt, straightest, walkFrom, walks};
-ghost use Rattle.stitch.specs.Stitch.{counted, cross2, inWalks, kindBy, ruleOf, signedArea, turned};
-ghost use Rattle.stitch.specs.Code.{Arrived, Below, Counting, Ends, Finished, Finishing, FirstFrom, Lent};
-ghost use Rattle.stitch.specs.Code.{Lasts, Past, Ready, Spare, Stitches, Tables, Turn, Went, Wrote};
+ghost use Rattle.stitch.specs.Stitch.{cross2, inWalks, kindBy, plusWalk, ruleOf, signedArea, turned};
+ghost use Rattle.stitch.specs.Code.{Arrived, Below, Counting, Ends, Finished, Finishing, FirstFrom, Lasts};
+ghost use Rattle.stitch.specs.Code.{Marked, Past, Spare, Stitchable, Stitches, Tables, Turn, Went, Wrote};
 ghost use Rattle.stitch.specs.Code.{ahead, better, cosineFor, edgesIn};
 use vector::Vec2;
 
@@ -45,7 +45,7 @@ impl Counts {
     // The counts with so many edges more, in a walk of this kind.
     fn plus(self, kind: Kind, edges: usize) -> Counts
         requires { ⌜ inWalks self + edges < 65536 ⌝ }
-        ensures { λ r. ⌜ r ≡ counted kind edges self ⌝ }
+        ensures { λ r. ⌜ r ≡ plusWalk kind edges self ⌝ }
     {
         let mut counts = self;
         match kind {
@@ -80,7 +80,7 @@ pub fn stitch_segments(
     nodes: &mut [u32],
     ends: &mut [u32],
 ) -> Stitched
-    requires { ⌜ Lent s (now segments) (now points) (now nodes) (now ends) ⌝ }
+    requires { ⌜ Stitchable s (now segments) (now points) (now nodes) (now ends) ⌝ }
     ensures { λ r. ⌜ Stitches (ruleOf tol) (segs 2 s (now (segments .entry))) r (now (points .entry))
         (now (points .exit)) (now (nodes .entry)) (now (nodes .exit)) (now (ends .entry)) (now (ends .exit)) ⌝ }
 {
@@ -116,7 +116,7 @@ fn stitch_many(
     nodes: &mut [u32],
     ends: &mut [u32],
 ) -> Stitched
-    requires { ⌜ Lent s (now segments) (now points) (now nodes) (now ends) ⌝ }
+    requires { ⌜ Stitchable s (now segments) (now points) (now nodes) (now ends) ⌝ }
     ensures { λ r. ⌜ Stitches (ruleOf tol) (segs 2 s (now (segments .entry))) r (now (points .entry))
         (now (points .exit)) (now (nodes .entry)) (now (nodes .exit)) (now (ends .entry)) (now (ends .exit)) ⌝ }
 {
@@ -154,7 +154,7 @@ fn stitch_within(
     walked: &mut [u32],
     last: &mut [u16],
 ) -> Stitched
-    requires { ⌜ Lent s (now segments) (now points) (now nodes) (now ends)
+    requires { ⌜ Stitchable s (now segments) (now points) (now nodes) (now ends)
         × Tables s (now smaller) (now larger) (now used) (now walked) (now last) ⌝ }
     ensures { λ r. ⌜ Stitches rule (segs 2 s (now (segments .entry))) r (now (points .entry)) (now (points .exit))
         (now (nodes .entry)) (now (nodes .exit)) (now (ends .entry)) (now (ends .exit)) ⌝ }
@@ -201,7 +201,7 @@ fn stitch_edges(
     ends: &mut [u32],
     last: &mut [u16],
 ) -> Tally
-    requires { ⌜ Ready n (now points) (now smaller) (now larger) (now used)
+    requires { ⌜ Marked n (now points) (now smaller) (now larger) (now used)
         × Spare (edgesOf (now smaller) (now larger)) (now walked) (now nodes) (now ends)
         × (now used ≡ replicate (length (now smaller)) false) × (n ≤ length (now last))
         × (now last ≡ replicate (length (now last)) 0) ⌝ }
@@ -272,7 +272,7 @@ fn stitch_from(
     k: usize,
     tally: Tally,
 ) -> Tally
-    requires { ⌜ Ready n (now points) (now smaller) (now larger) (now used)
+    requires { ⌜ Marked n (now points) (now smaller) (now larger) (now used)
         × Spare (edgesOf (now smaller) (now larger)) (now walked) (now nodes) (now ends) × (k < length (now smaller))
         × Counting tally (now used) × (n ≤ length (now last)) × Lasts (edgesOf (now smaller) (now larger)) (now last) ⌝ }
     ensures { λ r. ⌜ Turn (rows 2 n (now (points .entry))) (edgesOf (now (smaller .entry)) (now (larger .entry))) rule
@@ -315,7 +315,7 @@ pub fn walk(
     last: &[u16],
     start_edge: usize,
 ) -> Walked
-    requires { ⌜ Ready n (now points) (now smaller) (now larger) (now used) × («start_edge» < length (now smaller))
+    requires { ⌜ Marked n (now points) (now smaller) (now larger) (now used) × («start_edge» < length (now smaller))
         × (length (now smaller) < length (now nodes)) × (getD (now used) «start_edge» true ≡ false)
         × (n ≤ length (now last)) × Lasts (edgesOf (now smaller) (now larger)) (now last) ⌝ }
     ensures { λ r. ⌜ Went
@@ -393,7 +393,7 @@ fn select_next_edge(
     current: u32,
     end: usize,
 ) -> Next
-    requires { ⌜ Ready n (now points) (now smaller) (now larger) (now used) × (previous < n) × (current < n)
+    requires { ⌜ Marked n (now points) (now smaller) (now larger) (now used) × (previous < n) × (current < n)
         × (end ≤ length (now smaller)) × Past current (edgesOf (now smaller) (now larger)) end ⌝ }
     ensures { λ r. ⌜ r ≡ nextEdge (rows 2 n (now (points .entry)))
         (edgesOf (now (smaller .entry)) (now (larger .entry))) (now (used .entry)) previous current ⌝ }
@@ -548,7 +548,7 @@ fn straightest(
     second: usize,
     end: usize,
 ) -> usize
-    requires { ⌜ Ready n (now points) (now smaller) (now larger) (now used) × (first < length (now smaller))
+    requires { ⌜ Marked n (now points) (now smaller) (now larger) (now used) × (first < length (now smaller))
         × (second < length (now smaller)) × (end ≤ length (now smaller))
         × Past (arrival .node) (edgesOf (now smaller) (now larger)) end ⌝ }
     ensures { λ r. ⌜ r ≡ straightest

@@ -9,7 +9,7 @@ ghost use Rattle.vector.specs.Vector.{lineOf, normalAlong, planeOf, unit};
 ghost use Rattle.vector.specs.View.{placed, unit2};
 ghost use Rattle.vector.specs.Tolerance.{tolerance};
 ghost use Rattle.clip.specs.Cell.{atMost};
-ghost use Rattle.stitch.specs.Code.{Lent};
+ghost use Rattle.stitch.specs.Code.{Stitchable};
 ghost use Rattle.trial.specs.Trial.{ClipFits, Clips, FrameGiven, Refused, Stitching, Total, UnitGiven, Unstitched, projected};
 use vector::Placed;
 use vector::Plane;
@@ -71,7 +71,8 @@ fn space_segments(
         normal: point3(placed, 1),
         tol: tol,
     };
-    clip::space::plane_section_segments(poly, n, cut, points, out)
+    let found = clip::space::plane_section_segments(poly, n, cut, points, out);
+    found.segments
 }
 
 // The same in the plane.
@@ -122,7 +123,8 @@ fn plane_segments(
         normal: point2(placed, 1),
         tol: tol,
     };
-    clip::plane::plane_section_segments(poly, n, cut, points, out)
+    let found = clip::plane::plane_section_segments(poly, n, cut, points, out);
+    found.segments
 }
 
 // What stitching gives, and whether the lengths fitted.
@@ -147,7 +149,7 @@ pub extern "C" fn trial_stitch(
     nodes: &mut [u32],
     ends: &mut [u32],
 ) -> Answer
-    ensures { λ r. ⌜ Total (Lent (length (now (segments .entry)) / 4) (now (segments .entry)) (now (points .entry))
+    ensures { λ r. ⌜ Total (Stitchable (length (now (segments .entry)) / 4) (now (segments .entry)) (now (points .entry))
         (now (nodes .entry)) (now (ends .entry)))
         (Stitching (now (segments .entry)) tol r (now (points .entry)) (now (points .exit)) (now (nodes .entry))
         (now (nodes .exit)) (now (ends .entry)) (now (ends .exit)))

@@ -1,7 +1,7 @@
 -- What welding lists: edges between two of the points, smaller first, and none twice; and which. Assumes nothing.
 use mathlib.Core.Path.{_≡_, refl, ap, sym, _∙_}
 use mathlib.Core.List.{List, [], _∷_, _++_}
-use mathlib.Core.Bool.{Bool, true, false, cond, _&&_, _||_}
+use mathlib.Core.Bool.{Bool, true, false, cond, _&&_, _||_, or-assoc, or-false, or-true}
 use Prim.Native.Nat.{ℕ, zero, suc, _+_, _*_, _≤_, _<_, min, max}
 use mathlib.Core.Logic.{_⊎_, inl, inr, ⊎-elim}
 use native.Mathlib.Nat.{not-suc-le-zero, eq-or-lt-of-le}
@@ -39,23 +39,11 @@ unfolding listed
 listed-at [] k h = absurd (not-suc-le-zero h)
 listed-at (e ∷ es) zero h = rw (same-self e)
 listed-at (e ∷ es) (suc k) h = let i = listed-at es k (omega arith) in rw i (or-true (same (getD es k (edge 0 0)) e))
-  where
-    or-true : (b : Bool) → (b || true) ≡ true
-    or-true true = refl
-    or-true false = refl
 
 pub listed-snoc : (e f : Edge) (es : List Edge) → listed e (es ++ f ∷ []) ≡ (listed e es || same e f)
 unfolding listed
 listed-snoc e f [] = or-false (same e f)
-  where
-    or-false : (b : Bool) → (b || false) ≡ b
-    or-false true = refl
-    or-false false = refl
-listed-snoc e f (g ∷ es) = rw (listed-snoc e f es) (assoc (same e g) (listed e es) (same e f))
-  where
-    assoc : (x y z : Bool) → (x || (y || z)) ≡ ((x || y) || z)
-    assoc true y z = refl
-    assoc false y z = refl
+listed-snoc e f (g ∷ es) = rw (listed-snoc e f es) (sym (or-assoc (same e g) (listed e es) (same e f)))
 
 -- a property of every place of a list, and of one more
 snoc-at : (P : Edge → Type 0) (es : List Edge) (e : Edge) → ((k : ℕ) → k < length es → P (getD es k (edge 0 0))) → P e
@@ -166,12 +154,12 @@ edges-few [] es = omega arith
 edges-few (edge a b ∷ l) es = omega (arith, edges-few l (addEdge a b es), add-length a b es)
 
 -- ---- the points that ends become
-find-le : (p : Vector) (t : Float) (qs : List Vector) → find p t qs ≤ length qs
+find-le : (p : Vector) (tol2 : Float) (qs : List Vector) → find p tol2 qs ≤ length qs
 unfolding find
-find-le p t [] = omega arith
-find-le p t (q ∷ qs) = by-test (le (dist2 q p) t) (find-le p t qs)
+find-le p tol2 [] = omega arith
+find-le p tol2 (q ∷ qs) = by-test (le (dist2 q p) tol2) (find-le p tol2 qs)
   where
-    by-test : (b : Bool) → find p t qs ≤ length qs → cond b zero (suc (find p t qs)) ≤ suc (length qs)
+    by-test : (b : Bool) → find p tol2 qs ≤ length qs → cond b zero (suc (find p tol2 qs)) ≤ suc (length qs)
     by-test true h = omega arith
     by-test false h = omega arith
 
@@ -181,60 +169,60 @@ pub record Pushes (f n m : ℕ) : Type 0 where
   pub one : m ≤ n + 1
   pub among : f < m
 
-pub pushes : (p : Vector) (t : Float) (qs : List Vector) → Pushes (find p t qs) (length qs) (length (push p t qs))
+pub pushes : (p : Vector) (tol2 : Float) (qs : List Vector) → Pushes (find p tol2 qs) (length qs) (length (push p tol2 qs))
 unfolding push
-pushes p t qs = by-test (ltb (find p t qs) (length qs)) (ltb-true (find p t qs) (length qs)) (find-le p t qs)
+pushes p tol2 qs = by-test (ltb (find p tol2 qs) (length qs)) (ltb-true (find p tol2 qs) (length qs)) (find-le p tol2 qs)
   where
-    by-test : (b : Bool) → (b ≡ true → find p t qs < length qs) → find p t qs ≤ length qs
-        → Pushes (find p t qs) (length qs) (length (cond b qs (qs ++ p ∷ [])))
+    by-test : (b : Bool) → (b ≡ true → find p tol2 qs < length qs) → find p tol2 qs ≤ length qs
+        → Pushes (find p tol2 qs) (length qs) (length (cond b qs (qs ++ p ∷ [])))
     by-test true e h = let x = e refl in omega arith
     by-test false e h = omega (arith, length-append qs (p ∷ []))
 
-points-more : (t : Float) (ss : List Seg) (qs : List Vector) → length qs ≤ length (pointsFrom t ss qs)
+points-more : (tol2 : Float) (ss : List Seg) (qs : List Vector) → length qs ≤ length (pointsFrom tol2 ss qs)
 unfolding pointsFrom
-points-more t [] qs = omega arith
-points-more t (seg p q ∷ ss) qs =
-    let a = pushes p t qs in
-    let b = pushes q t (push p t qs) in
-    omega (arith, points-more t ss (push q t (push p t qs)))
+points-more tol2 [] qs = omega arith
+points-more tol2 (seg p q ∷ ss) qs =
+    let a = pushes p tol2 qs in
+    let b = pushes q tol2 (push p tol2 qs) in
+    omega (arith, points-more tol2 ss (push q tol2 (push p tol2 qs)))
 
-points-few : (t : Float) (ss : List Seg) (qs : List Vector) → length (pointsFrom t ss qs) ≤ 2 * length ss + length qs
+points-few : (tol2 : Float) (ss : List Seg) (qs : List Vector) → length (pointsFrom tol2 ss qs) ≤ 2 * length ss + length qs
 unfolding pointsFrom
-points-few t [] qs = omega arith
-points-few t (seg p q ∷ ss) qs =
-    let a = pushes p t qs in
-    let b = pushes q t (push p t qs) in
-    omega (arith, points-few t ss (push q t (push p t qs)))
+points-few tol2 [] qs = omega arith
+points-few tol2 (seg p q ∷ ss) qs =
+    let a = pushes p tol2 qs in
+    let b = pushes q tol2 (push p tol2 qs) in
+    omega (arith, points-few tol2 ss (push q tol2 (push p tol2 qs)))
 
-becomes-within : (t : Float) (ss : List Seg) (qs : List Vector) → Within (becomes t ss qs) (length (pointsFrom t ss qs))
+becomes-within : (tol2 : Float) (ss : List Seg) (qs : List Vector) → Within (becomes tol2 ss qs) (length (pointsFrom tol2 ss qs))
 unfolding becomes pointsFrom
-becomes-within t [] qs k h = absurd (not-suc-le-zero h)
-becomes-within t (seg p q ∷ ss) qs zero h =
-    let a = pushes p t qs in
-    let b = pushes q t (push p t qs) in
-    let m = points-more t ss (push q t (push p t qs)) in
+becomes-within tol2 [] qs k h = absurd (not-suc-le-zero h)
+becomes-within tol2 (seg p q ∷ ss) qs zero h =
+    let a = pushes p tol2 qs in
+    let b = pushes q tol2 (push p tol2 qs) in
+    let m = points-more tol2 ss (push q tol2 (push p tol2 qs)) in
     (omega arith, omega arith)
-becomes-within t (seg p q ∷ ss) qs (suc k) h = becomes-within t ss (push q t (push p t qs)) k (omega arith)
+becomes-within tol2 (seg p q ∷ ss) qs (suc k) h = becomes-within tol2 ss (push q tol2 (push p tol2 qs)) k (omega arith)
 
-becomes-length : (t : Float) (ss : List Seg) (qs : List Vector) → length (becomes t ss qs) ≡ length ss
+becomes-length : (tol2 : Float) (ss : List Seg) (qs : List Vector) → length (becomes tol2 ss qs) ≡ length ss
 unfolding becomes
-becomes-length t [] qs = refl
-becomes-length t (seg p q ∷ ss) qs = ap suc (becomes-length t ss (push q t (push p t qs)))
+becomes-length tol2 [] qs = refl
+becomes-length tol2 (seg p q ∷ ss) qs = ap suc (becomes-length tol2 ss (push q tol2 (push p tol2 qs)))
 
 -- ---- of a list of segments
-module _ (t : Float) (ss : List Seg) where
-  pub listed-simple : Simple (listedEdges t ss)
-  listed-simple = edges-simple (becomes t ss []) [] (λ k h. absurd (not-suc-le-zero h))
+module _ (tol2 : Float) (ss : List Seg) where
+  pub listed-simple : Simple (listedEdges tol2 ss)
+  listed-simple = edges-simple (becomes tol2 ss []) [] (λ k h. absurd (not-suc-le-zero h))
 
-  pub listed-distinct : Distinct (listedEdges t ss)
-  listed-distinct = edges-distinct (becomes t ss []) [] (λ i j h. absurd (not-suc-le-zero h))
+  pub listed-distinct : Distinct (listedEdges tol2 ss)
+  listed-distinct = edges-distinct (becomes tol2 ss []) [] (λ i j h. absurd (not-suc-le-zero h))
 
-  pub listed-within : Within (listedEdges t ss) (length (weldedPoints t ss))
+  pub listed-within : Within (listedEdges tol2 ss) (length (weldedPoints tol2 ss))
   listed-within =
-      edges-within (becomes t ss []) [] (length (weldedPoints t ss)) (becomes-within t ss []) (λ k h. absurd (not-suc-le-zero h))
+      edges-within (becomes tol2 ss []) [] (length (weldedPoints tol2 ss)) (becomes-within tol2 ss []) (λ k h. absurd (not-suc-le-zero h))
 
-  pub listed-few : length (listedEdges t ss) ≤ length ss
-  listed-few = omega (arith, edges-few (becomes t ss []) [], becomes-length t ss [])
+  pub listed-few : length (listedEdges tol2 ss) ≤ length ss
+  listed-few = omega (arith, edges-few (becomes tol2 ss []) [], becomes-length tol2 ss [])
 
-  pub points-at-most : length (weldedPoints t ss) ≤ 2 * length ss
-  points-at-most = omega (arith, points-few t ss [])
+  pub points-at-most : length (weldedPoints tol2 ss) ≤ 2 * length ss
+  points-at-most = omega (arith, points-few tol2 ss [])

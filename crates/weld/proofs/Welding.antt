@@ -12,53 +12,53 @@ use Rattle.vector.specs.Vector.{Vector}
 use Rattle.vector.specs.Rows.{noSeg, row, rows, seg, segs}
 use Rattle.vector.proofs.Rows.{drop-later, rows-length, segs-getD, segs-length}
 use Rattle.weld.specs.Weld.{find, push, pointsFrom, becomes, edgesFrom, weldedPoints, listedEdges, Within}
-use Rattle.weld.specs.Code.{Added, Became, Joined, Welds, edgesOf}
+use Rattle.weld.specs.Code.{Added, Became, SegmentWelded, Welds, edgesOf}
 use Rattle.weld.proofs.Edges.{add-within, pushes}
 use Rattle.weld.proofs.Points.{became-few}
 use Rattle.weld.proofs.Lists.{edges-below, edges-count, edges-take}
 
 -- ---- a segment: its first end, its second end, its edge
-module _ {p q : Vector} {t : Float} {n : ℕ} {zs : List Float} {m : ℕ} {xs ys : List ℕ}
+module _ {p q : Vector} {tol2 : Float} {n : ℕ} {zs : List Float} {m : ℕ} {xs ys : List ℕ}
     {n′ : ℕ} {zs′ : List Float} {m′ : ℕ} {xs′ ys′ : List ℕ} where
-  pub joined : {a b n₁ : ℕ} {zs₁ : List Float} → Became p t n zs a n₁ zs₁ → Became q t n₁ zs₁ b n′ zs′ → Added a b m xs ys m′ xs′ ys′
-      → Joined p q t n zs m xs ys n′ zs′ m′ xs′ ys′
+  pub joined : {a b n₁ : ℕ} {zs₁ : List Float} → Became p tol2 n zs a n₁ zs₁ → Became q tol2 n₁ zs₁ b n′ zs′ → Added a b m xs ys m′ xs′ ys′
+      → SegmentWelded p q tol2 n zs m xs ys n′ zs′ m′ xs′ ys′
   joined {a} {b} {n₁} {zs₁} u v e =
       let later = became-few v in
       record {
-        points = v .points ∙ ap (push q t) (u .points);
+        points = v .points ∙ ap (push q tol2) (u .points);
         edges = e .edges ∙ rw (u .place, v .place, u .points);
         rest = v .rest ∙ drop-later zs₁ zs (2 * n₁) (2 * n′) (omega arith) (u .rest);
         one-more = e .one-more;
       }
 
-  pub joined-few : Joined p q t n zs m xs ys n′ zs′ m′ xs′ ys′ → (n ≤ n′) × (n′ ≤ n + 2)
+  pub joined-few : SegmentWelded p q tol2 n zs m xs ys n′ zs′ m′ xs′ ys′ → (n ≤ n′) × (n′ ≤ n + 2)
   joined-few j =
-      let a = pushes p t (rows 2 n zs) in
-      let b = pushes q t (push p t (rows 2 n zs)) in
+      let a = pushes p tol2 (rows 2 n zs) in
+      let b = pushes q tol2 (push p tol2 (rows 2 n zs)) in
       let e = ap length (j .points) in
       let l = rows-length 2 n zs in
       let r = rows-length 2 n′ zs′ in
       (omega arith, omega arith)
 
   -- the edges stay between the points there are
-  pub joined-within : Joined p q t n zs m xs ys n′ zs′ m′ xs′ ys′ → Within (take m (edgesOf xs ys)) n
+  pub joined-within : SegmentWelded p q tol2 n zs m xs ys n′ zs′ m′ xs′ ys′ → Within (take m (edgesOf xs ys)) n
       → Within (take m′ (edgesOf xs′ ys′)) n′
   joined-within j w =
       let few = joined-few j in
-      let a = pushes p t (rows 2 n zs) in
-      let b = pushes q t (push p t (rows 2 n zs)) in
+      let a = pushes p tol2 (rows 2 n zs) in
+      let b = pushes q tol2 (push p tol2 (rows 2 n zs)) in
       let e = ap length (j .points) in
       let r = rows-length 2 n′ zs′ in
       rw (j .edges)
-      (add-within (find p t (rows 2 n zs)) (find q t (push p t (rows 2 n zs))) (take m (edgesOf xs ys)) n′
+      (add-within (find p tol2 (rows 2 n zs)) (find q tol2 (push p tol2 (rows 2 n zs))) (take m (edgesOf xs ys)) n′
       (λ k h. let o = w k h in (omega arith, omega arith)) (omega arith) (omega arith))
 
 -- ---- the loop
 -- n points and m edges so far, and the segments from i on still to be welded
-pub record Welding (t : Float) (ss : List Float) (s : ℕ) (zs₀ : List Float) (room i n m : ℕ) (zs : List Float) (xs ys : List ℕ)
+pub record Welding (tol2 : Float) (ss : List Float) (s : ℕ) (zs₀ : List Float) (room i n m : ℕ) (zs : List Float) (xs ys : List ℕ)
     : Type 0 where
-  pub points : weldedPoints t (segs 2 s ss) ≡ pointsFrom t (drop i (segs 2 s ss)) (rows 2 n zs)
-  pub edges : listedEdges t (segs 2 s ss) ≡ edgesFrom (becomes t (drop i (segs 2 s ss)) (rows 2 n zs)) (take m (edgesOf xs ys))
+  pub points : weldedPoints tol2 (segs 2 s ss) ≡ pointsFrom tol2 (drop i (segs 2 s ss)) (rows 2 n zs)
+  pub edges : listedEdges tol2 (segs 2 s ss) ≡ edgesFrom (becomes tol2 (drop i (segs 2 s ss)) (rows 2 n zs)) (take m (edgesOf xs ys))
   pub rest : drop (2 * n) zs ≡ drop (2 * n) zs₀
   pub within : Within (take m (edgesOf xs ys)) n
   pub few-points : n ≤ 2 * i
@@ -68,8 +68,8 @@ pub record Welding (t : Float) (ss : List Float) (s : ℕ) (zs₀ : List Float) 
   pub smaller-room : length xs ≡ room
   pub larger-room : length ys ≡ room
 
-pub welding-start : {t : Float} {ss : List Float} {s : ℕ} {zs : List Float} {xs ys : List ℕ} → length xs ≡ length ys
-    → Welding t ss s zs (length xs) 0 0 0 zs xs ys
+pub welding-start : {tol2 : Float} {ss : List Float} {s : ℕ} {zs : List Float} {xs ys : List ℕ} → length xs ≡ length ys
+    → Welding tol2 ss s zs (length xs) 0 0 0 zs xs ys
 welding-start e =
     record {
       points = refl;
@@ -84,12 +84,12 @@ welding-start e =
       larger-room = sym e;
     }
 
-module _ {t : Float} {ss : List Float} {s : ℕ} {zs₀ : List Float} {room i n m : ℕ} {zs : List Float} {xs ys : List ℕ}
-    (w : Welding t ss s zs₀ room i n m zs xs ys) where
+module _ {tol2 : Float} {ss : List Float} {s : ℕ} {zs₀ : List Float} {room i n m : ℕ} {zs : List Float} {xs ys : List ℕ}
+    (w : Welding tol2 ss s zs₀ room i n m zs xs ys) where
   pub welding-step : {n′ : ℕ} {zs′ : List Float} {m′ : ℕ} {xs′ ys′ : List ℕ} → i < s
-      → Joined (row 2 ss (2 * i)) (row 2 ss (2 * i + 1)) t n zs m xs ys n′ zs′ m′ xs′ ys′
+      → SegmentWelded (row 2 ss (2 * i)) (row 2 ss (2 * i + 1)) tol2 n zs m xs ys n′ zs′ m′ xs′ ys′
       → length zs′ ≡ length zs → length xs′ ≡ length xs → length ys′ ≡ length ys
-      → Welding t ss s zs₀ room (i + 1) n′ m′ zs′ xs′ ys′
+      → Welding tol2 ss s zs₀ room (i + 1) n′ m′ zs′ xs′ ys′
   unfolding pointsFrom becomes edgesFrom
   welding-step {n′} {zs′} {m′} {xs′} {ys′} h j lz lx ly =
       let few = joined-few j in
@@ -108,12 +108,12 @@ module _ {t : Float} {ss : List Float} {s : ℕ} {zs₀ : List Float} {room i n 
         larger-room = ly ∙ w .larger-room;
       }
 
-  pub welding-end : s ≤ i → s ≤ room → Welds t ss s zs₀ n m zs xs ys
+  pub welding-end : s ≤ i → s ≤ room → Welds tol2 ss s zs₀ n m zs xs ys
   unfolding pointsFrom becomes edgesFrom
   welding-end h fits =
       let done : drop i (segs 2 s ss) ≡ [] = drop-of-length-le (segs 2 s ss) {i = i} (omega (arith, segs-length 2 s ss)) in
-      let all-points : rows 2 n zs ≡ weldedPoints t (segs 2 s ss) = sym (w .points ∙ rw done) in
-      let all-edges : take m (edgesOf xs ys) ≡ listedEdges t (segs 2 s ss) = sym (w .edges ∙ rw done) in
+      let all-points : rows 2 n zs ≡ weldedPoints tol2 (segs 2 s ss) = sym (w .points ∙ rw done) in
+      let all-edges : take m (edgesOf xs ys) ≡ listedEdges tol2 (segs 2 s ss) = sym (w .edges ∙ rw done) in
       record {
         points = all-points;
         rest = w .rest;
@@ -124,14 +124,14 @@ module _ {t : Float} {ss : List Float} {s : ℕ} {zs₀ : List Float} {room i n 
       }
 
 -- ---- what a caller reads off
-module _ {t : Float} {ss : List Float} {s : ℕ} {zs₀ : List Float} {n m : ℕ} {zs : List Float} {xs ys : List ℕ}
-    (w : Welds t ss s zs₀ n m zs xs ys) where
-  pub points-counted : length (weldedPoints t (segs 2 s ss)) ≡ n
+module _ {tol2 : Float} {ss : List Float} {s : ℕ} {zs₀ : List Float} {n m : ℕ} {zs : List Float} {xs ys : List ℕ}
+    (w : Welds tol2 ss s zs₀ n m zs xs ys) where
+  pub points-counted : length (weldedPoints tol2 (segs 2 s ss)) ≡ n
   points-counted = ap length (sym (w .points)) ∙ rows-length 2 n zs
 
-  pub edges-counted : length xs ≡ length ys → s ≤ length xs → length (listedEdges t (segs 2 s ss)) ≡ m
+  pub edges-counted : length xs ≡ length ys → s ≤ length xs → length (listedEdges tol2 (segs 2 s ss)) ≡ m
   edges-counted one room = ap length (sym (w .edges)) ∙ edges-count m xs ys one (omega (arith, w))
 
   -- the parts of the two lists that hold edges
-  pub edges-exact : edgesOf (take m xs) (take m ys) ≡ listedEdges t (segs 2 s ss)
+  pub edges-exact : edgesOf (take m xs) (take m ys) ≡ listedEdges tol2 (segs 2 s ss)
   edges-exact = sym (edges-take m xs ys) ∙ w .edges

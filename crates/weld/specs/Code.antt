@@ -15,7 +15,7 @@ edgesOf (a ∷ xs) [] = []
 edgesOf (a ∷ xs) (b ∷ ys) = edge a b ∷ edgesOf xs ys
 
 -- what welding s segments is lent: room for two points and one edge a segment
-pub record Lent (s : ℕ) (segments points : List Float) (smaller larger : List ℕ) : Type 0 where
+pub record Weldable (s : ℕ) (segments points : List Float) (smaller larger : List ℕ) : Type 0 where
   pub given : 4 * s ≤ length segments
   pub few : s ≤ 384
   pub for-points : 4 * s ≤ length points
@@ -23,9 +23,9 @@ pub record Lent (s : ℕ) (segments points : List Float) (smaller larger : List 
   pub alike : length smaller ≡ length larger
 
 -- p has become point k: one of the n points in zs, or a new one written after them
-pub record Became (p : Vector) (t : Float) (n : ℕ) (zs : List Float) (k n′ : ℕ) (zs′ : List Float) : Type 0 where
-  pub place : k ≡ find p t (rows 2 n zs)
-  pub points : rows 2 n′ zs′ ≡ push p t (rows 2 n zs)
+pub record Became (p : Vector) (tol2 : Float) (n : ℕ) (zs : List Float) (k n′ : ℕ) (zs′ : List Float) : Type 0 where
+  pub place : k ≡ find p tol2 (rows 2 n zs)
+  pub points : rows 2 n′ zs′ ≡ push p tol2 (rows 2 n zs)
   pub rest : drop (2 * n′) zs′ ≡ drop (2 * n′) zs
 
 -- the edge between points a and b has been added to the first m of xs and ys
@@ -34,20 +34,20 @@ pub record Added (a b m : ℕ) (xs ys : List ℕ) (m′ : ℕ) (xs′ ys′ : Li
   pub one-more : m′ ≤ m + 1
 
 -- the segment from p to q has been welded to the n points in zs and the m edges in xs and ys
-pub record Joined (p q : Vector) (t : Float) (n : ℕ) (zs : List Float) (m : ℕ) (xs ys : List ℕ)
+pub record SegmentWelded (p q : Vector) (tol2 : Float) (n : ℕ) (zs : List Float) (m : ℕ) (xs ys : List ℕ)
     (n′ : ℕ) (zs′ : List Float) (m′ : ℕ) (xs′ ys′ : List ℕ) : Type 0 where
-  pub points : rows 2 n′ zs′ ≡ push q t (push p t (rows 2 n zs))
+  pub points : rows 2 n′ zs′ ≡ push q tol2 (push p tol2 (rows 2 n zs))
   pub edges : take m′ (edgesOf xs′ ys′)
-      ≡ addEdge (find p t (rows 2 n zs)) (find q t (push p t (rows 2 n zs))) (take m (edgesOf xs ys))
+      ≡ addEdge (find p tol2 (rows 2 n zs)) (find q tol2 (push p tol2 (rows 2 n zs))) (take m (edgesOf xs ys))
   pub rest : drop (2 * n′) zs′ ≡ drop (2 * n′) zs
   pub one-more : m′ ≤ m + 1
 
 -- The first s segments of ss have been welded: n points into zs, whose remainder is that of zs₀, and m edges into xs and ys.
 -- What xs and ys hold beyond m is not said: they are scratch.
-pub record Welds (t : Float) (ss : List Float) (s : ℕ) (zs₀ : List Float) (n m : ℕ) (zs : List Float) (xs ys : List ℕ) : Type 0 where
-  pub points : rows 2 n zs ≡ weldedPoints t (segs 2 s ss)
+pub record Welds (tol2 : Float) (ss : List Float) (s : ℕ) (zs₀ : List Float) (n m : ℕ) (zs : List Float) (xs ys : List ℕ) : Type 0 where
+  pub points : rows 2 n zs ≡ weldedPoints tol2 (segs 2 s ss)
   pub rest : drop (2 * n) zs ≡ drop (2 * n) zs₀
-  pub edges : take m (edgesOf xs ys) ≡ listedEdges t (segs 2 s ss)
+  pub edges : take m (edgesOf xs ys) ≡ listedEdges tol2 (segs 2 s ss)
   pub few-points : n ≤ 2 * s
   pub few-edges : m ≤ s
   pub within : (k : ℕ) → k < m → (getD xs k 0 < n) × (getD ys k 0 < n)

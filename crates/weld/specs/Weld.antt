@@ -11,23 +11,23 @@ use Rattle.vector.specs.Rows.{Seg, seg}
 
 -- ---- the welded point of document 01
 
--- The place of the first point whose squared distance to p is at most t; the number of points where there is none. A NaN distance is at
+-- The place of the first point whose squared distance to p is at most tol2; the number of points where there is none. A NaN distance is at
 -- most nothing.
 unfoldable pub find : Vector → Float → List Vector → ℕ
 unfolding add sub mul le
-find p t [] = zero
-find p t (q ∷ qs) = let r = suc (find p t qs) in cond (le (dist2 q p) t) zero r
+find p tol2 [] = zero
+find p tol2 (q ∷ qs) = let r = suc (find p tol2 qs) in cond (le (dist2 q p) tol2) zero r
 
 -- The points after p has become one of them: p is a new point only where no point is near.
 unfoldable pub push : Vector → Float → List Vector → List Vector
 unfolding find
-push p t qs = cond (ltb (find p t qs) (length qs)) qs (qs ++ p ∷ [])
+push p tol2 qs = cond (ltb (find p tol2 qs) (length qs)) qs (qs ++ p ∷ [])
 
 -- all points, those of qs first
 unfoldable pub pointsFrom : Float → List Seg → List Vector → List Vector
 unfolding push
-pointsFrom t [] qs = qs
-pointsFrom t (seg p q ∷ ss) qs = pointsFrom t ss (push q t (push p t qs))
+pointsFrom tol2 [] qs = qs
+pointsFrom tol2 (seg p q ∷ ss) qs = pointsFrom tol2 ss (push q tol2 (push p tol2 qs))
 
 -- ---- the edge of document 01: two points, smaller first
 pub data Edge : Type 0 where
@@ -54,8 +54,8 @@ listed e (f ∷ fs) = same e f || listed e fs
 -- The two points that the ends of each segment become, first end first, where qs are the points before.
 unfoldable pub becomes : Float → List Seg → List Vector → List Edge
 unfolding push
-becomes t [] qs = []
-becomes t (seg p q ∷ ss) qs = edge (find p t qs) (find q t (push p t qs)) ∷ becomes t ss (push q t (push p t qs))
+becomes tol2 [] qs = []
+becomes tol2 (seg p q ∷ ss) qs = edge (find p tol2 qs) (find q tol2 (push p tol2 qs)) ∷ becomes tol2 ss (push q tol2 (push p tol2 qs))
 
 -- ends that weld together give no edge; an edge is listed once
 unfoldable pub addEdge : ℕ → ℕ → List Edge → List Edge
@@ -68,12 +68,12 @@ unfolding addEdge
 edgesFrom [] es = es
 edgesFrom (edge a b ∷ l) es = edgesFrom l (addEdge a b es)
 
--- ---- a list of segments, welded within the squared tolerance t
+-- ---- a list of segments, welded within the squared tolerance tol2
 abbrev pub weldedPoints : Float → List Seg → List Vector
-weldedPoints t ss = pointsFrom t ss []
+weldedPoints tol2 ss = pointsFrom tol2 ss []
 
 abbrev pub listedEdges : Float → List Seg → List Edge
-listedEdges t ss = edgesFrom (becomes t ss []) []
+listedEdges tol2 ss = edgesFrom (becomes tol2 ss []) []
 
 -- ---- what holds of the listed edges
 

@@ -5,7 +5,7 @@ ghost use lib.ListN.{length, take};
 ghost use Rattle.vector.specs.Rows.{row, rows};
 ghost use Rattle.vector.specs.View.{vec2};
 ghost use Rattle.weld.specs.Weld.{Within, between, edge, find, listed, same};
-ghost use Rattle.weld.specs.Code.{Added, Became, Joined, Lent, Welds, edgesOf};
+ghost use Rattle.weld.specs.Code.{Added, Became, SegmentWelded, Weldable, Welds, edgesOf};
 use vector::Vec2;
 
 // How many points and edges there are.
@@ -23,7 +23,7 @@ pub fn weld(
     larger: &mut [u32],
     tol2: f64,
 ) -> Welded
-    requires { ⌜ Lent s (now segments) (now points) (now smaller) (now larger) ⌝ }
+    requires { ⌜ Weldable s (now segments) (now points) (now smaller) (now larger) ⌝ }
     ensures { λ r. ⌜ Welds tol2 (now (segments .entry)) s (now (points .entry)) (r .points) (r .edges)
         (now (points .exit)) (now (smaller .exit)) (now (larger .exit)) ⌝ }
 {
@@ -53,7 +53,7 @@ fn weld_segment(
         × (welded .points + 1 < 2 ^ 32) × (welded .edges < length (now smaller))
         × (length (now smaller) ≡ length (now larger))
         × Within (take (welded .edges) (edgesOf (now smaller) (now larger))) (welded .points) ⌝ }
-    ensures { λ r. ⌜ Joined (row 2 (now (segments .entry)) (2 * i)) (row 2 (now (segments .entry)) (2 * i + 1)) tol2
+    ensures { λ r. ⌜ SegmentWelded (row 2 (now (segments .entry)) (2 * i)) (row 2 (now (segments .entry)) (2 * i + 1)) tol2
         (welded .points) (now (points .entry)) (welded .edges) (now (smaller .entry)) (now (larger .entry))
         (r .points) (now (points .exit)) (r .edges) (now (smaller .exit)) (now (larger .exit)) ⌝ }
 {

@@ -4,7 +4,7 @@ use borrow.Author.Needs.{needs}
 use Rattle.weld.proofs.Lists.{edges-length}
 use native.Mathlib.Omega.{arith}
 use lib.ListN.{length}
-use Rattle.stitch.proofs.Stitching.{Looping, looping-start, looping-ready, looping-spare, looping-step, looping-end}
+use Rattle.stitch.proofs.Stitching.{Looping, looping-start, looping-marked, looping-spare, looping-step, looping-end}
 use Rattle.stitch.proofs.stitch_edges.Statement.{statement}
 use Rattle.stitch.proofs.stitch_edges.Tie as tie
 
@@ -40,7 +40,7 @@ stitch-from-requires c κs =
     .before .before .before .before in
     let g = s .args in
     let l = c .before .before .before .before .before .before .loop in (
-      looping-ready (g .n) (g .points .now) (g .smaller .now) (g .larger .now) (g .rule) (g .used .now) (g .walked .now) (g .nodes .now)
+      looping-marked (g .n) (g .points .now) (g .smaller .now) (g .larger .now) (g .rule) (g .used .now) (g .walked .now) (g .nodes .now)
           (g .ends .now)
           (l .used) (l .walked) (l .nodes) (l .ends) (l .tally) (l .k) (l .inv) (s .pre .0) (s .pre .1),
       looping-spare (g .n) (g .points .now) (g .smaller .now) (g .larger .now) (g .rule) (g .used .now) (g .walked .now) (g .nodes .now)

@@ -4,7 +4,7 @@ use mathlib.Core.Bool.{false}
 use native.Mathlib.Omega.{arith}
 use lib.ListN.{length, length-replicate}
 use borrow.Author.Needs.{needs}
-use Rattle.stitch.proofs.Welded.{Walkable, walkable, gave}
+use Rattle.stitch.proofs.Welded.{Walkable, walkable, stitches}
 use Rattle.stitch.proofs.stitch_within.Statement.{statement}
 use Rattle.stitch.proofs.stitch_within.Tie as tie
 
@@ -51,7 +51,7 @@ slice-aggregate-stitch-edges-3 c = fit (c .before .before .before .before .befor
 stitch-edges-requires : tie.Need-stitch-edges-requires
 stitch-edges-requires c κs =
     let w = fit (c .before .before .before .before .before .before .before .before .before .before .before .before .before .before) in (
-      w .ready,
+      w .marked,
       w .spare,
       w .fresh,
       omega (arith, c .before .before .before .before .before .before .before .before .before .before .before .before .before .before .weld .ensures .few-points, c .before .before .before .before .before .before .before .before .before .before .before .before .before .before .before .before .before .before .before .before .before .before .before .before .before .before .before .pre .1 .for-lasts),
@@ -87,7 +87,7 @@ returns c =
     let a = (c .before .before .before .before .before .before .before .before .before .before .before .before .before .before .before .before .before .before .before .before .before .before .before .before .before .before) in
     let g = entry a .args in
     let f = a .weld in
-    gave (g .rule) (g .segments .now) (g .s) (g .points .now) (f .result .points) (f .result .edges) (f .last .1 .1 .0)
+    stitches (g .rule) (g .segments .now) (g .s) (g .points .now) (f .result .points) (f .result .edges) (f .last .1 .1 .0)
     (f .last .1 .1 .1 .0) (f .last .1 .1 .1 .1 .0) (g .nodes .now) (g .ends .now) (f .ensures) (entry a .pre .0) (f .kept .1 .1 .0)
     (f .kept .1 .1 .1 .0 ∙ entry a .pre .1 .same ∙ sym (f .kept .1 .1 .1 .1 .0))
     (omega (arith, f .kept .1 .1 .1 .0, entry a .pre .1 .for-edges)) (c .before .before .before .before .before .before .before .before .before .before .before .stitch-edges .result) _ _ (c .before .before .before .before .before .before .before .before .before .before .before .stitch-edges .ensures)

@@ -12,7 +12,7 @@ use Rattle.stitch.specs.declared.Next.{Next}
 use Rattle.stitch.specs.declared.Next.the-variants as next
 use Rattle.stitch.specs.Walk.{nextEdge, Walk}
 use Rattle.stitch.specs.Code.{unused, unused}
-use Rattle.stitch.proofs.Walking.{Going, whole, walk-is, going-start, in-buffer, ready, free-in, fewer, going-step, going-open, going-closed, went-as}
+use Rattle.stitch.proofs.Walking.{Going, whole, walk-is, going-start, in-buffer, marked, free-in, fewer, going-step, going-open, going-closed, went-as}
 use Rattle.stitch.proofs.walk.Statement.{statement}
 use Rattle.stitch.proofs.walk.Tie as tie
 
@@ -139,7 +139,7 @@ select-next-edge-requires c κs =
     let s = c .before .before .before .before .before .before .before .before .before .before .before .before in
     let g = s .args in
     let l = c .before .before .before .loop in (
-      ready (g .n) (g .points .now) (g .smaller .now) (g .larger .now) _ (the-walk s) (room s) (l .used) (l .nodes) (l .count) (l .previous)
+      marked (g .n) (g .points .now) (g .smaller .now) (g .larger .now) _ (the-walk s) (room s) (l .used) (l .nodes) (l .count) (l .previous)
           (l .current) (l .inv) (s .pre .0 .ends) (fits s),
       l .inv .p-in,
       l .inv .c-in,

@@ -23,7 +23,7 @@ returns : tie.Need-returns
 returns c =
     let g = c .before .before .before .before .before .before .before .before .before .before .before .before .before .args in
     clips-by-rows 2 (g .n) (g .poly .now) (g .placed .now) (g .tol) _ _ _ _ _ (c .before .before .before .before .before .before .before .before .point2 .ensures) (c .before .before .before .before .before .before .before .point22 .ensures)
-    (c .before .before .before .before .plane-section-segments .ensures)
+    (c .before .before .before .before .plane-section-segments .ensures .segments)
 
 pub plane-segments-spec : {M : Type 1} → statement M
 plane-segments-spec =

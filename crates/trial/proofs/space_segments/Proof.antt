@@ -23,7 +23,7 @@ returns : tie.Need-returns
 returns c =
     let g = c .before .before .before .before .before .before .before .before .before .before .before .before .before .args in
     clips-by-rows 3 (g .n) (g .poly .now) (g .placed .now) (g .tol) _ _ _ _ _ (c .before .before .before .before .before .before .before .before .point3 .ensures) (c .before .before .before .before .before .before .before .point32 .ensures)
-    (c .before .before .before .before .plane-section-segments .ensures)
+    (c .before .before .before .before .plane-section-segments .ensures .segments)
 
 pub space-segments-spec : {M : Type 1} → statement M
 space-segments-spec =

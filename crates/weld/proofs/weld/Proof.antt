@@ -1,7 +1,6 @@
 -- `weld::weld` meets its contract. The invariant: what is welded so far, and the segments from i on, give what all give. Assumes nothing.
 use mathlib.Core.Path.{_∙_}
 use Prim.Native.Nat.{_-_}
-use native.Mathlib.Omega.{arith}
 use borrow.Author.Needs.{needs}
 use lib.ListN.{length}
 use Rattle.weld.proofs.Welding.{Welding, welding-end, welding-start, welding-step}

@@ -1,4 +1,4 @@
--- `clip::plane::alike` meets its contract. Assumes nothing.
+-- `clip::plane::alike` meets its contract. Written from space's by tools/widths. Assumes nothing.
 use borrow.Author.Needs.{needs}
 use Rattle.clip.proofs.plane.alike.Statement.{statement}
 use Rattle.clip.proofs.plane.alike.Tie as tie

@@ -1,4 +1,4 @@
--- `clip::plane::duplicate` meets its contract. The invariant: no segment passed is alike. Assumes nothing.
+-- `clip::plane::duplicate` meets its contract. Written from space's by tools/widths. The invariant: no segment passed is alike. Assumes nothing.
 use Prim.Native.Nat.{_-_}
 use native.Mathlib.Omega.{arith}
 use borrow.Author.Needs.{needs}

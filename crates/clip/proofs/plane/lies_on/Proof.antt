@@ -1,4 +1,4 @@
--- `clip::plane::lies_on` meets its contract. Assumes nothing.
+-- `clip::plane::lies_on` meets its contract. Written from space's by tools/widths. Assumes nothing.
 use borrow.Author.Needs.{needs}
 use Rattle.clip.proofs.plane.lies_on.Statement.{statement}
 use Rattle.clip.proofs.plane.lies_on.Tie as tie

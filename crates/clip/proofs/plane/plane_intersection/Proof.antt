@@ -1,4 +1,4 @@
--- `clip::plane::plane_intersection` meets its contract. Assumes nothing.
+-- `clip::plane::plane_intersection` meets its contract. Written from space's by tools/widths. Assumes nothing.
 use borrow.Author.Needs.{needs}
 use Rattle.vector.specs.View.{vec2}
 use Rattle.clip.proofs.Clipping.{crossing}
@@ -30,11 +30,14 @@ minus-requires-2 c κs = search needs
 returns : tie.Need-returns
 returns c =
     let g = c .before .before .before .before .before .before .before .before .args in
-    crossing (cut2 (g .cut)) (vec2 (g .a)) (g .da) (vec2 (g .b)) (g .db)
-    (c .before .before .before .before .before .before .before .ratio .ensures)
-    (c .before .before .before .before .before .before .minus .ensures)
-    (c .before .before .before .before .before .scaled .ensures) (c .before .before .before .before .plus .ensures)
-    (c .before .before .before .distance .ensures) (c .before .scaled2 .ensures) (c .minus2 .ensures)
+    record {
+      point =
+          crossing (cut2 (g .cut)) (vec2 (g .a)) (g .da) (vec2 (g .b)) (g .db)
+          (c .before .before .before .before .before .before .before .ratio .ensures)
+          (c .before .before .before .before .before .before .minus .ensures)
+          (c .before .before .before .before .before .scaled .ensures) (c .before .before .before .before .plus .ensures)
+          (c .before .before .before .distance .ensures) (c .before .scaled2 .ensures) (c .minus2 .ensures);
+    }
 
 pub plane-intersection-spec : {M : Type 1} → statement M
 plane-intersection-spec =

@@ -1,4 +1,4 @@
--- `clip::plane::plane_section_segments` meets its contract. Assumes nothing.
+-- `clip::plane::plane_section_segments` meets its contract. Written from space's by tools/widths. Assumes nothing.
 use mathlib.Core.Path.{_∙_}
 use native.Mathlib.Omega.{arith}
 use lib.Ieee.{ofBits}
@@ -10,7 +10,7 @@ use Rattle.clip.proofs.plane.plane_section_segments.Statement.{statemen
 use Rattle.clip.proofs.plane.plane_section_segments.Tie as tie
 
 returns : tie.Need-returns
-returns c = let g = c .before .before .before .before .args in few-corners 2 (cut2 (g .cut)) (g .n) (g .poly .now) (c .if1 .taken) (g .out .now)
+returns c = let g = c .before .before .before .before .args in record { segments = few-corners 2 (cut2 (g .cut)) (g .n) (g .poly .now) (c .if1 .taken) (g .out .now) }
 
 kept-side-requires : tie.Need-kept-side-requires
 kept-side-requires c κs = search needs
@@ -25,7 +25,7 @@ returns-2 : tie.Need-returns-2
 unfolding ofBits
 returns-2 c =
     let g = c .before .before .before .before .before .before .before .before .before .before .args in
-    on-neither 2 (cut2 (g .cut)) (g .n) (g .poly .now) (c .before .before .before .before .kept-side .ensures) (c .before .sign .ensures) (c .if2 .taken) (g .out .now)
+    record { segments = on-neither 2 (cut2 (g .cut)) (g .n) (g .poly .now) (c .before .before .before .before .before .before .if1 .left) (c .before .before .before .before .kept-side .ensures) (c .before .sign .ensures) (c .if2 .taken) (g .out .now) }
 
 clip-polygon-requires : tie.Need-clip-polygon-requires
 clip-polygon-requires c κs = (omega (arith, c .before .before .before .before .before .before .before .before .if1 .left), c .before .before .before .before .before .before .before .before .before .before .before .before .pre .0, omega (arith, c .before .before .before .before .before .before .kept-side .kept .1 .1 .1 .0, c .before .before .before .before .before .before .before .before .before .before .before .before .pre .1), c .before .before .before .before .before .before .kept-side .ensures .distances)
@@ -35,7 +35,7 @@ without-closing-requires c κs =
     let g = c .before .before .before .before .before .before .before .before .before .before .before .before .before .before .before .before .args in
     omega (
       arith,
-      clipped-count (cut2 (g .cut)) (c .before .before .before .before .before .before .before .sign .result) (g .n) (g .poly .now) (c .before .before .before .clip-polygon .ensures),
+      clipped-count (cut2 (g .cut)) (c .before .before .before .before .before .before .before .sign .result) (g .n) (g .poly .now) (c .before .before .before .clip-polygon .ensures .points),
       c .before .before .before .clip-polygon .kept .1 .1 .1 .1 .1 .0,
       c .before .before .before .before .before .before .before .before .before .before .kept-side .kept .1 .1 .1 .0,
       c .before .before .before .before .before .before .before .before .before .before .before .before .before .before .before .before .pre,
@@ -48,16 +48,18 @@ returns-3 : tie.Need-returns-3
 unfolding ofBits
 returns-3 c =
     let g = c .before .before .before .before .before .before .before .before .before .before .before .before .before .before .before .before .before .before .args in
-    on-side 2 (cut2 (g .cut)) (g .n) (g .poly .now) (c .before .before .before .before .before .before .before .before .before .before .before .before .kept-side .ensures) (c .before .before .before .before .before .before .before .before .before .sign .ensures) (c .before .before .before .before .before .before .before .before .if2 .left)
-    (few-points (cut2 (g .cut)) (c .before .before .before .before .before .before .before .before .before .sign .result) (g .n) (g .poly .now) (c .before .without-closing .result) (c .before .before .before .before .before .clip-polygon .ensures)
-    (c .before .without-closing .ensures .0) (c .if3 .taken) (g .out .now))
+    record {
+      segments = on-side 2 (cut2 (g .cut)) (g .n) (g .poly .now) (c .before .before .before .before .before .before .before .before .before .before .before .before .before .before .if1 .left) (c .before .before .before .before .before .before .before .before .before .before .before .before .kept-side .ensures) (c .before .before .before .before .before .before .before .before .before .sign .ensures) (c .before .before .before .before .before .before .before .before .if2 .left)
+          (few-points (cut2 (g .cut)) (c .before .before .before .before .before .before .before .before .before .sign .result) (g .n) (g .poly .now) (c .before .without-closing .result) (c .before .before .before .before .before .clip-polygon .ensures .points)
+          (c .before .without-closing .ensures .0) (c .if3 .taken) (g .out .now));
+    }
 
 segments-requires : tie.Need-segments-requires
 segments-requires c κs =
     let g = c .before .before .before .before .before .before .before .before .before .before .before .before .before .before .before .before .before .before .before .before .args in
     omega (
       arith,
-      clipped-count (cut2 (g .cut)) (c .before .before .before .before .before .before .before .before .before .before .before .sign .result) (g .n) (g .poly .now) (c .before .before .before .before .before .before .before .clip-polygon .ensures),
+      clipped-count (cut2 (g .cut)) (c .before .before .before .before .before .before .before .before .before .before .before .sign .result) (g .n) (g .poly .now) (c .before .before .before .before .before .before .before .clip-polygon .ensures .points),
       c .before .before .before .before .before .before .before .clip-polygon .kept .1 .1 .1 .1 .1 .0,
       c .before .before .before .before .before .before .before .before .before .before .before .before .before .before .kept-side .kept .1 .1 .1 .0,
       c .before .before .before .before .before .before .before .before .before .before .before .before .before .before .before .before .before .before .before .before .pre,
@@ -75,9 +77,11 @@ returns-4 : tie.Need-returns-4
 unfolding ofBits
 returns-4 c =
     let g = c .before .before .before .before .before .before .before .before .before .before .before .before .before .before .before .before .before .before .before .before .before .before .before .args in
-    on-side 2 (cut2 (g .cut)) (g .n) (g .poly .now) (c .before .before .before .before .before .before .before .before .before .before .before .before .before .before .before .before .before .kept-side .ensures) (c .before .before .before .before .before .before .before .before .before .before .before .before .before .before .sign .ensures) (c .before .before .before .before .before .before .before .before .before .before .before .before .before .if2 .left)
-    (many-points (cut2 (g .cut)) (c .before .before .before .before .before .before .before .before .before .before .before .before .before .before .sign .result) (g .n) (g .poly .now) (c .before .before .before .before .before .before .without-closing .result) (c .before .before .before .before .before .before .before .before .before .before .clip-polygon .ensures)
-    (c .before .before .before .before .before .before .without-closing .ensures .0) (c .before .before .before .before .before .if3 .left) (c .before .before .segments .ensures))
+    record {
+      segments = on-side 2 (cut2 (g .cut)) (g .n) (g .poly .now) (c .before .before .before .before .before .before .before .before .before .before .before .before .before .before .before .before .before .before .before .if1 .left) (c .before .before .before .before .before .before .before .before .before .before .before .before .before .before .before .before .before .kept-side .ensures) (c .before .before .before .before .before .before .before .before .before .before .before .before .before .before .sign .ensures) (c .before .before .before .before .before .before .before .before .before .before .before .before .before .if2 .left)
+          (many-points (cut2 (g .cut)) (c .before .before .before .before .before .before .before .before .before .before .before .before .before .before .sign .result) (g .n) (g .poly .now) (c .before .before .before .before .before .before .without-closing .result) (c .before .before .before .before .before .before .before .before .before .before .clip-polygon .ensures .points)
+          (c .before .before .before .before .before .before .without-closing .ensures .0) (c .before .before .before .before .before .if3 .left) (c .before .before .segments .ensures));
+    }
 
 pub plane-section-segments-spec : {M : Type 1} → statement M
 plane-section-segments-spec =

@@ -1,4 +1,4 @@
--- `clip::plane::push_clip` meets its contract. Assumes nothing.
+-- `clip::plane::push_clip` meets its contract. Written from space's by tools/widths. Assumes nothing.
 use native.Mathlib.Omega.{arith}
 use borrow.Author.Needs.{needs}
 use Rattle.vector.specs.View.{vec2}

@@ -1,11 +1,11 @@
--- `clip::plane::push_segment` meets its contract. Assumes nothing.
+-- `clip::plane::push_segment` meets its contract. Written from space's by tools/widths. Assumes nothing.
 use mathlib.Core.Path.{refl}
 use native.Mathlib.Omega.{arith}
 use borrow.Author.Needs.{needs}
 use Rattle.vector.specs.Rows.{seg}
 use Rattle.vector.specs.View.{vec2}
-use Rattle.clip.specs.View.{cut2}
 use Rattle.clip.proofs.Listing.{push-again, push-new, push-off}
+use Rattle.clip.specs.View.{cut2}
 use Rattle.clip.proofs.plane.push_segment.Statement.{statement}
 use Rattle.clip.proofs.plane.push_segment.Tie as tie
 

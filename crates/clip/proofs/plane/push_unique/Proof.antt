@@ -1,4 +1,4 @@
--- `clip::plane::push_unique` meets its contract. Assumes nothing.
+-- `clip::plane::push_unique` meets its contract. Written from space's by tools/widths. Assumes nothing.
 use mathlib.Core.Path.{refl}
 use native.Mathlib.Omega.{arith}
 use borrow.Author.Needs.{needs}

@@ -1,4 +1,4 @@
--- `clip::plane::segments` meets its contract. Assumes nothing.
+-- `clip::plane::segments` meets its contract. Written from space's by tools/widths. Assumes nothing.
 -- The invariant: the segments listed, with those of the edges left, make the segments.
 use Prim.Native.Nat.{_-_}
 use native.Mathlib.Omega.{arith}

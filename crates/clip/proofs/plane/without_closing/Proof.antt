@@ -1,4 +1,4 @@
--- `clip::plane::without_closing` meets its contract. Assumes nothing.
+-- `clip::plane::without_closing` meets its contract. Written from space's by tools/widths. Assumes nothing.
 use native.Mathlib.Omega.{arith}
 use borrow.Author.Needs.{needs}
 use Rattle.clip.proofs.Clipping.{closing-far, closing-few, closing-near}

@@ -30,11 +30,14 @@ minus-requires-2 c κs = search needs
 returns : tie.Need-returns
 returns c =
     let g = c .before .before .before .before .before .before .before .before .args in
-    crossing (cut3 (g .cut)) (vec3 (g .a)) (g .da) (vec3 (g .b)) (g .db)
-    (c .before .before .before .before .before .before .before .ratio .ensures)
-    (c .before .before .before .before .before .before .minus .ensures)
-    (c .before .before .before .before .before .scaled .ensures) (c .before .before .before .before .plus .ensures)
-    (c .before .before .before .distance .ensures) (c .before .scaled2 .ensures) (c .minus2 .ensures)
+    record {
+      point =
+          crossing (cut3 (g .cut)) (vec3 (g .a)) (g .da) (vec3 (g .b)) (g .db)
+          (c .before .before .before .before .before .before .before .ratio .ensures)
+          (c .before .before .before .before .before .before .minus .ensures)
+          (c .before .before .before .before .before .scaled .ensures) (c .before .before .before .before .plus .ensures)
+          (c .before .before .before .distance .ensures) (c .before .scaled2 .ensures) (c .minus2 .ensures);
+    }
 
 pub plane-intersection-spec : {M : Type 1} → statement M
 plane-intersection-spec =

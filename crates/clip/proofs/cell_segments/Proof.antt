@@ -1,4 +1,4 @@
--- `clip::space::cell_segments` meets its contract. Assumes nothing.
+-- `clip::cell_segments` meets its contract. Assumes nothing.
 -- The invariant: the segments listed, with those of the faces left, make the cell's.
 use mathlib.Core.Path.{_≡_, refl, _∙_}
 use Prim.Native.Nat.{_-_, _*_, _≤_}
@@ -9,8 +9,8 @@ use Rattle.vector.specs.View.{frameOf}
 use Rattle.clip.specs.Cell.{cutBy}
 use Rattle.clip.proofs.Faces.{Gathering, face-from, face-points, face-space, face-to, gathering-end, gathering-start, gathering-step}
 use Rattle.clip.proofs.Section.{section-count}
-use Rattle.clip.proofs.space.cell_segments.Statement.{statement}
-use Rattle.clip.proofs.space.cell_segments.Tie as tie
+use Rattle.clip.proofs.cell_segments.Statement.{statement}
+use Rattle.clip.proofs.cell_segments.Tie as tie
 
 abbrev Inv-loop : tie.InvT-loop
 Inv-loop coords ends m plane tol points₀ space₀ out₀ cut k₀ s₀ i₀ points space out k s i =
@@ -92,7 +92,7 @@ project-segments-requires c κs =
     let at = 3 * c .before .before .before .before .before .before .before .before .before .before .before .before .loop .s in
     let count =
     section-count 3 (cutBy (frameOf (g .plane)) (g .tol)) (getD (g .ends .now) (c .before .before .before .before .before .before .before .before .before .before .before .before .loop .i) 0 - c .before .before .before .before .before .before .before .before .before .before .before .before .loop .s)
-    (take (length (g .coords .now) - at) (drop at (g .coords .now))) (c .before .before .before .before .before .before .plane-section-segments .ensures) in (
+    (take (length (g .coords .now) - at) (drop at (g .coords .now))) (c .before .before .before .before .before .before .plane-section-segments .ensures .segments) in (
       omega (arith, count, face-space (v .0) h, v .2, c .before .before .before .before .before .before .plane-section-segments .kept .1 .1 .1 .1 .0),
       omega (arith, count, c .before .before .before .before .before .before .before .before .before .before .before .before .before .before .before .before .before .before .before .before .pre .2),
     )
@@ -108,7 +108,7 @@ loop-again c =
     let v = c .before .before .before .before .before .before .before .before .before .before .before .before .before .before .before .loop .inv in
     let found = c .before .before .before .before .before .before .before .before .before .plane-section-segments in
     let put = c .before .before .project-segments in (
-      gathering-step (v .0) (c .before .before .before .before .before .before .before .before .before .before .before .before .before .before .loop-test .taken) refl (found .ensures) (put .ensures) (put .kept .1 .1 .1 .0),
+      gathering-step (v .0) (c .before .before .before .before .before .before .before .before .before .before .before .before .before .before .loop-test .taken) refl (found .ensures .segments) (put .ensures) (put .kept .1 .1 .1 .0),
       found .kept .1 .1 .1 .0 ∙ v .1,
       found .kept .1 .1 .1 .1 .0 ∙ v .2,
     )
@@ -123,7 +123,7 @@ same-length-3 : tie.Need-same-length-3 Inv-loop μ-loop
 same-length-3 c = c .before .loop .inv .0 .same-length
 
 returns : tie.Need-returns Inv-loop μ-loop
-returns c = gathering-end (c .before .loop .inv .0) (c .loop-test .left)
+returns c = record { segments = gathering-end (c .before .loop .inv .0) (c .loop-test .left) }
 
 pub cell-segments-spec : {M : Type 1} → statement M
 cell-segments-spec =

@@ -1,4 +1,4 @@
--- `clip::space::project_segments` meets its contract. Assumes nothing.
+-- `clip::project_segments` meets its contract. Assumes nothing.
 -- The invariant: the segments passed stand after those that were there.
 use mathlib.Core.Path.{_∙_}
 use Prim.Native.Nat.{_-_}
@@ -6,8 +6,8 @@ use native.Mathlib.Omega.{arith}
 use borrow.Author.Needs.{needs}
 use Rattle.vector.specs.View.{frameOf}
 use Rattle.clip.proofs.Faces.{Projecting, projecting-end, projecting-start, projecting-step}
-use Rattle.clip.proofs.space.project_segments.Statement.{statement}
-use Rattle.clip.proofs.space.project_segments.Tie as tie
+use Rattle.clip.proofs.project_segments.Statement.{statement}
+use Rattle.clip.proofs.project_segments.Tie as tie
 
 abbrev Inv-loop : tie.InvT-loop
 Inv-loop space k plane out₀ from i₀ out i = Projecting (frameOf plane) 3 k space from out₀ i out
