@@ -7,6 +7,7 @@ use lib.ListN.{length}
 use Rattle.vector.specs.Rows.{Seg}
 use Rattle.vector.proofs.Rows.{segs-length}
 use Rattle.clip.specs.Code.{Segments}
+use Rattle.clip.specs.declared.Found.{Found}
 use Rattle.rows.specs.Outcome.{Outcome, refused, found}
 use Rattle.cuts.specs.Lines.{GaveLine, ToldLine, lineTold}
 use Rattle.cuts.proofs.Segments.{segments-over}
@@ -18,12 +19,12 @@ pub line-refused : {o : Outcome (List Seg)} {k : ℕ} (numbers : List Float) →
 line-refused numbers e = rw e (record { told-is = refl; numbers-are = refl })
 
 -- segments that were written
-pub line-gave : {o : Outcome (List Seg)} {w : ℕ} {xs : List Float} {ss : List Seg} {r : ℕ} {zs : List Float} → o ≡ found ss
-    → Segments w xs ss r zs → length zs ≡ length xs → w * (2 * r) ≤ length xs → GaveLine o (lineTold (Cut r)) xs zs
+pub line-gave : {o : Outcome (List Seg)} {w : ℕ} {xs : List Float} {ss : List Seg} {r : Found} {zs : List Float} → o ≡ found ss
+    → Segments w xs ss (r .segments) zs → length zs ≡ length xs → w * (2 * r .segments) ≤ length xs → GaveLine o (lineTold (Cut r)) xs zs
 line-gave {w = w} {r = r} {zs = zs} e h l room =
     rw e
     (record {
-      told-is = ap {B = ToldLine} (λ n. record { refusal = 0; segments = n }) (sym (segs-length w r zs) ∙ ap length (h .are));
+      told-is = ap {B = ToldLine} (λ n. record { refusal = 0; segments = n }) (sym (segs-length w (r .segments) zs) ∙ ap length (h .are));
       numbers-are = segments-over h l room;
     })
 

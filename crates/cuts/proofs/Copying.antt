@@ -14,7 +14,7 @@ use Rattle.cell.specs.declared.Kept.{Kept}
 use Rattle.clip.specs.Cell.{atMost, cutBy, facesOf}
 use Rattle.clip.specs.Code.{Fit, Segments}
 use Rattle.clip.proofs.Bound.{cell-bound}
-use Rattle.stitch.specs.Code.{Lent}
+use Rattle.stitch.specs.Code.{Stitchable}
 use Rattle.cuts.specs.Cuts.{segmentsOn}
 use Rattle.cuts.specs.Code.{CanSection, CellWithin}
 use Rattle.cuts.proofs.Sizes.{any-within, copied-back, copied-fit, corners-in-all}
@@ -62,7 +62,7 @@ module _ (k : Cell) (a : Accepted (spaceCell k)) {r : Kept} {coords coords′ : 
 pub lent : {k : Cell} {numbers : List Float} {nodes ends : List ℕ} {segments out : List Float} {s m f n : ℕ} (l : Frame)
     (tol : Float) → CanSection k numbers nodes ends → CellWithin m f n k → 6 * m ≤ length segments
     → Segments 2 segments (segmentsOn l tol (polygonsOf (spaceCell k))) s out → length out ≡ length segments
-    → Lent s out numbers nodes ends
+    → Stitchable s out numbers nodes ends
 lent {k} {out = out} {s = s} f tol h w v g l =
     let ps = polygonsOf (spaceCell k) in
     let n : s ≡ length (segmentsOn f tol ps) = sym (segs-length 2 s out) ∙ ap length (g .are) in

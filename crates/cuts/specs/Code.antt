@@ -8,6 +8,10 @@ use Rattle.vector.specs.View.{frameOf}
 use Rattle.vector.specs.Vector.{Frame}
 use Rattle.cell.specs.Read.{Polygon, Cell, spaceCell, polygonsOf, cornersOf, Accepted}
 use Rattle.stitch.specs.Claim.{All}
+use Rattle.stitch.specs.Code.{Answered}
+use Rattle.stitch.specs.Entry.{Buffers}
+use Rattle.stitch.specs.declared.alone.Sectioned.{Sectioned}
+use Rattle.cuts.specs.Cuts.{sectionOf}
 use Rattle.cuts.specs.declared.Placing as P
 use Rattle.cuts.specs.declared.Placing.the-variants as p
 
@@ -33,6 +37,11 @@ pub record CanGather (k : Cell) (out : List Float) : Type 0 where
 pub record CanSection (k : Cell) (numbers : List Float) (nodes ends : List ℕ) : Type 0 where
   pub accepted : Accepted (spaceCell k)
   pub roomy : Roomy (cornersOf (spaceCell k)) numbers nodes ends
+
+-- the section of polygons by a plane is given
+pub record SectionGiven (f : Frame) (tol : Float) (ps : List Polygon) (r : Sectioned) (b b′ : Buffers) : Type 0 where
+  pub stitched
+      : Answered (sectionOf f tol ps) (r .stitched) (b .numbers) (b′ .numbers) (b .nodes) (b′ .nodes) (b .ends) (b′ .ends)
 
 -- ---- the tiers of scratch
 

@@ -21,7 +21,7 @@ toldLine (found ss) = record { refusal = 0; segments = length ss }
 -- document 01's number and value for each case of the code's answer
 abbrev pub lineTold : L.Line → ToldLine
 lineTold (l.Refused k) = record { refusal = k; segments = 0 }
-lineTold (l.Cut n) = record { refusal = 0; segments = n }
+lineTold (l.Cut r) = record { refusal = 0; segments = r .segments }
 
 -- the numbers of some segments, first end then second; a refusal writes none
 abbrev pub flat : List Seg → List Float

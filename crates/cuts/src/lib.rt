@@ -2,12 +2,14 @@
 ghost use mathlib.Core.Path.{_≡_};
 ghost use Rattle.vector.specs.View.{frameOf, placed, vec3};
 ghost use Rattle.cell.specs.Read.{cell, polygonsOf, spaceCell};
-ghost use Rattle.clip.specs.Code.{Segments};
-ghost use Rattle.stitch.specs.Code.{Gave as Answered};
-ghost use Rattle.cuts.specs.Cuts.{frameBy, placeIn, sectionOf, segmentsOn, through};
-ghost use Rattle.cuts.specs.Code.{placing, CanGather, CanSection, CellWithin};
+ghost use Rattle.clip.specs.Cell.{cutBy};
+ghost use Rattle.clip.specs.Code.{CellCut};
+ghost use Rattle.stitch.specs.Entry.{buffers};
+ghost use Rattle.cuts.specs.Cuts.{frameBy, placeIn, through};
+ghost use Rattle.cuts.specs.Code.{placing, CanGather, CanSection, CellWithin, SectionGiven};
 use cell::types::SpaceType;
-use stitch::Stitched;
+use clip::Found;
+use stitch::alone::Sectioned;
 use vector::Placed;
 use vector::Plane;
 use vector::Vec3;
@@ -24,10 +26,10 @@ pub enum Placing {
     On(Plane),
 }
 
-// The number of a refusal, or how many segments were written.
+// The number of a refusal, or the segments.
 pub enum Line {
     Refused(u8),
-    Cut(usize),
+    Cut(Found),
 }
 
 // The plane through origin with this normal, or the one that holds the line with this direction; or refusal 5 or 6.
@@ -56,8 +58,7 @@ fn plane_by(way: Way, origin: Vec3, vector: Vec3) -> Placed
     }
 }
 
-// The segments of an accepted cell on a plane, in the plane's own coordinates, written over the start of `out`. Gives
-// how many there are.
+// The segments of an accepted cell on a plane, in the plane's own coordinates, written over the start of `out`.
 //
 // Scratch comes in three tiers, a function each, so that small cells do not pay for large ones: fixed types have at most
 // 24 face corners, four a face; small polyhedra at most 88 entries; and others 256.
@@ -68,11 +69,10 @@ pub fn gather_cell(
     plane: Plane,
     tol: f64,
     out: &mut [f64],
-) -> usize
+) -> Found
     requires { ⌜ CanGather (cell t (now conn) (now xs)) (now out) ⌝ }
-    ensures { λ r. ⌜ Segments 2 (now (out .entry))
-        (segmentsOn (frameOf plane) tol (polygonsOf (spaceCell (cell t (now (conn .entry)) (now (xs .entry))))))
-        r (now (out .exit)) ⌝ }
+    ensures { λ r. ⌜ CellCut (cutBy (frameOf plane) tol) (frameOf plane)
+        (polygonsOf (spaceCell (cell t (now (conn .entry)) (now (xs .entry))))) (now (out .entry)) r (now (out .exit)) ⌝ }
 {
     if t != SpaceType::PHED {
         return gather_fixed(t, conn, xs, plane, tol, out);
@@ -93,12 +93,12 @@ pub fn section_cell(
     numbers: &mut [f64],
     nodes: &mut [u32],
     ends: &mut [u32],
-) -> Stitched
+) -> Sectioned
     requires { ⌜ CanSection (cell t (now conn) (now xs)) (now numbers) (now nodes) (now ends) ⌝ }
-    ensures { λ r. ⌜ Answered
-        (sectionOf (frameOf plane) tol (polygonsOf (spaceCell (cell t (now (conn .entry)) (now (xs .entry))))))
-        r (now (numbers .entry)) (now (numbers .exit)) (now (nodes .entry)) (now (nodes .exit)) (now (ends .entry))
-        (now (ends .exit)) ⌝ }
+    ensures { λ r. ⌜ SectionGiven (frameOf plane) tol
+        (polygonsOf (spaceCell (cell t (now (conn .entry)) (now (xs .entry))))) r
+        (buffers (now (numbers .entry)) (now (nodes .entry)) (now (ends .entry)))
+        (buffers (now (numbers .exit)) (now (nodes .exit)) (now (ends .exit))) ⌝ }
 {
     if t != SpaceType::PHED {
         return section_fixed(t, conn, xs, plane, tol, numbers, nodes, ends);
@@ -119,17 +119,19 @@ pub fn section_large(
     numbers: &mut [f64],
     nodes: &mut [u32],
     ends: &mut [u32],
-) -> Stitched
+) -> Sectioned
     requires { ⌜ CanSection (cell t (now conn) (now xs)) (now numbers) (now nodes) (now ends)
         × CellWithin 256 85 256 (cell t (now conn) (now xs)) ⌝ }
-    ensures { λ r. ⌜ Answered
-        (sectionOf (frameOf plane) tol (polygonsOf (spaceCell (cell t (now (conn .entry)) (now (xs .entry))))))
-        r (now (numbers .entry)) (now (numbers .exit)) (now (nodes .entry)) (now (nodes .exit)) (now (ends .entry))
-        (now (ends .exit)) ⌝ }
+    ensures { λ r. ⌜ SectionGiven (frameOf plane) tol
+        (polygonsOf (spaceCell (cell t (now (conn .entry)) (now (xs .entry))))) r
+        (buffers (now (numbers .entry)) (now (nodes .entry)) (now (ends .entry)))
+        (buffers (now (numbers .exit)) (now (nodes .exit)) (now (ends .exit))) ⌝ }
 {
     let mut segments = [0.0f64; 1536];
-    let s = gather_large(t, conn, xs, plane, tol, &mut segments);
-    stitch::stitch_segments(&segments, s, tol, numbers, nodes, ends)
+    let found = gather_large(t, conn, xs, plane, tol, &mut segments);
+    Sectioned {
+        stitched: stitch::stitch_segments(&segments, found.segments, tol, numbers, nodes, ends),
+    }
 }
 
 // Of a small polyhedron.
@@ -142,17 +144,19 @@ fn section_small(
     numbers: &mut [f64],
     nodes: &mut [u32],
     ends: &mut [u32],
-) -> Stitched
+) -> Sectioned
     requires { ⌜ CanSection (cell t (now conn) (now xs)) (now numbers) (now nodes) (now ends)
         × CellWithin 88 29 88 (cell t (now conn) (now xs)) ⌝ }
-    ensures { λ r. ⌜ Answered
-        (sectionOf (frameOf plane) tol (polygonsOf (spaceCell (cell t (now (conn .entry)) (now (xs .entry))))))
-        r (now (numbers .entry)) (now (numbers .exit)) (now (nodes .entry)) (now (nodes .exit)) (now (ends .entry))
-        (now (ends .exit)) ⌝ }
+    ensures { λ r. ⌜ SectionGiven (frameOf plane) tol
+        (polygonsOf (spaceCell (cell t (now (conn .entry)) (now (xs .entry))))) r
+        (buffers (now (numbers .entry)) (now (nodes .entry)) (now (ends .entry)))
+        (buffers (now (numbers .exit)) (now (nodes .exit)) (now (ends .exit))) ⌝ }
 {
     let mut segments = [0.0f64; 528];
-    let s = gather_small(t, conn, xs, plane, tol, &mut segments);
-    stitch::stitch_segments(&segments, s, tol, numbers, nodes, ends)
+    let found = gather_small(t, conn, xs, plane, tol, &mut segments);
+    Sectioned {
+        stitched: stitch::stitch_segments(&segments, found.segments, tol, numbers, nodes, ends),
+    }
 }
 
 // Of a cell of every type but polyhedra.
@@ -165,25 +169,26 @@ pub fn section_fixed(
     numbers: &mut [f64],
     nodes: &mut [u32],
     ends: &mut [u32],
-) -> Stitched
+) -> Sectioned
     requires { ⌜ CanSection (cell t (now conn) (now xs)) (now numbers) (now nodes) (now ends)
         × CellWithin 24 6 4 (cell t (now conn) (now xs)) ⌝ }
-    ensures { λ r. ⌜ Answered
-        (sectionOf (frameOf plane) tol (polygonsOf (spaceCell (cell t (now (conn .entry)) (now (xs .entry))))))
-        r (now (numbers .entry)) (now (numbers .exit)) (now (nodes .entry)) (now (nodes .exit)) (now (ends .entry))
-        (now (ends .exit)) ⌝ }
+    ensures { λ r. ⌜ SectionGiven (frameOf plane) tol
+        (polygonsOf (spaceCell (cell t (now (conn .entry)) (now (xs .entry))))) r
+        (buffers (now (numbers .entry)) (now (nodes .entry)) (now (ends .entry)))
+        (buffers (now (numbers .exit)) (now (nodes .exit)) (now (ends .exit))) ⌝ }
 {
     let mut segments = [0.0f64; 144];
-    let s = gather_fixed(t, conn, xs, plane, tol, &mut segments);
-    stitch::stitch_segments(&segments, s, tol, numbers, nodes, ends)
+    let found = gather_fixed(t, conn, xs, plane, tol, &mut segments);
+    Sectioned {
+        stitched: stitch::stitch_segments(&segments, found.segments, tol, numbers, nodes, ends),
+    }
 }
 
 // Of any cell.
-fn gather_large(t: u8, conn: &[u64], xs: &[f64], plane: Plane, tol: f64, out: &mut [f64]) -> usize
+fn gather_large(t: u8, conn: &[u64], xs: &[f64], plane: Plane, tol: f64, out: &mut [f64]) -> Found
     requires { ⌜ CanGather (cell t (now conn) (now xs)) (now out) × CellWithin 256 85 256 (cell t (now conn) (now xs)) ⌝ }
-    ensures { λ r. ⌜ Segments 2 (now (out .entry))
-        (segmentsOn (frameOf plane) tol (polygonsOf (spaceCell (cell t (now (conn .entry)) (now (xs .entry))))))
-        r (now (out .exit)) ⌝ }
+    ensures { λ r. ⌜ CellCut (cutBy (frameOf plane) tol) (frameOf plane)
+        (polygonsOf (spaceCell (cell t (now (conn .entry)) (now (xs .entry))))) (now (out .entry)) r (now (out .exit)) ⌝ }
 {
     let mut coords = [0.0f64; 768];
     let mut face_ends = [0usize; 85];
@@ -192,7 +197,7 @@ fn gather_large(t: u8, conn: &[u64], xs: &[f64], plane: Plane, tol: f64, out: &m
     let k = cell::copy_space_cell(t, conn, xs, &mut coords, &mut face_ends);
     let m = k.corners;
     let f = k.faces;
-    clip::space::cell_segments(
+    clip::cell_segments(
         &coords,
         &face_ends[..f],
         m,
@@ -205,11 +210,10 @@ fn gather_large(t: u8, conn: &[u64], xs: &[f64], plane: Plane, tol: f64, out: &m
 }
 
 // Of a small polyhedron.
-fn gather_small(t: u8, conn: &[u64], xs: &[f64], plane: Plane, tol: f64, out: &mut [f64]) -> usize
+fn gather_small(t: u8, conn: &[u64], xs: &[f64], plane: Plane, tol: f64, out: &mut [f64]) -> Found
     requires { ⌜ CanGather (cell t (now conn) (now xs)) (now out) × CellWithin 88 29 88 (cell t (now conn) (now xs)) ⌝ }
-    ensures { λ r. ⌜ Segments 2 (now (out .entry))
-        (segmentsOn (frameOf plane) tol (polygonsOf (spaceCell (cell t (now (conn .entry)) (now (xs .entry))))))
-        r (now (out .exit)) ⌝ }
+    ensures { λ r. ⌜ CellCut (cutBy (frameOf plane) tol) (frameOf plane)
+        (polygonsOf (spaceCell (cell t (now (conn .entry)) (now (xs .entry))))) (now (out .entry)) r (now (out .exit)) ⌝ }
 {
     let mut coords = [0.0f64; 264];
     let mut face_ends = [0usize; 29];
@@ -218,7 +222,7 @@ fn gather_small(t: u8, conn: &[u64], xs: &[f64], plane: Plane, tol: f64, out: &m
     let k = cell::copy_space_cell(t, conn, xs, &mut coords, &mut face_ends);
     let m = k.corners;
     let f = k.faces;
-    clip::space::cell_segments(
+    clip::cell_segments(
         &coords,
         &face_ends[..f],
         m,
@@ -231,11 +235,10 @@ fn gather_small(t: u8, conn: &[u64], xs: &[f64], plane: Plane, tol: f64, out: &m
 }
 
 // Of a cell of every type but polyhedra.
-fn gather_fixed(t: u8, conn: &[u64], xs: &[f64], plane: Plane, tol: f64, out: &mut [f64]) -> usize
+fn gather_fixed(t: u8, conn: &[u64], xs: &[f64], plane: Plane, tol: f64, out: &mut [f64]) -> Found
     requires { ⌜ CanGather (cell t (now conn) (now xs)) (now out) × CellWithin 24 6 4 (cell t (now conn) (now xs)) ⌝ }
-    ensures { λ r. ⌜ Segments 2 (now (out .entry))
-        (segmentsOn (frameOf plane) tol (polygonsOf (spaceCell (cell t (now (conn .entry)) (now (xs .entry))))))
-        r (now (out .exit)) ⌝ }
+    ensures { λ r. ⌜ CellCut (cutBy (frameOf plane) tol) (frameOf plane)
+        (polygonsOf (spaceCell (cell t (now (conn .entry)) (now (xs .entry))))) (now (out .entry)) r (now (out .exit)) ⌝ }
 {
     let mut coords = [0.0f64; 72];
     let mut face_ends = [0usize; 6];
@@ -244,7 +247,7 @@ fn gather_fixed(t: u8, conn: &[u64], xs: &[f64], plane: Plane, tol: f64, out: &m
     let k = cell::copy_space_cell(t, conn, xs, &mut coords, &mut face_ends);
     let m = k.corners;
     let f = k.faces;
-    clip::space::cell_segments(
+    clip::cell_segments(
         &coords,
         &face_ends[..f],
         m,

@@ -17,7 +17,7 @@ use Rattle.weld.specs.Weld.{listedEdges}
 use Rattle.weld.proofs.Edges.{listed-few}
 use Rattle.stitch.specs.Stitch.{Answer, ruleOf, stitched}
 use Rattle.stitch.specs.Claim.{Claim}
-use Rattle.stitch.specs.Code.{Gave as Answered}
+use Rattle.stitch.specs.Code.{Answered}
 use Rattle.stitch.specs.Entry.{Buffers, buffers, Lengths, lengths, room, Told, told, toldRefused, toldAnswer, Gave, answerRead}
 use Rattle.stitch.specs.Entry.{stitchAlone, StitchSection, StitchSound, StitchClaim, Small, StitchSmall}
 use Rattle.stitch.specs.declared.Rule.{Rule}

@@ -73,7 +73,7 @@ told (found a) = toldAnswer a
 -- document 01's number and values for each case of the code's answer
 abbrev pub sectionTold : S.Section → Told
 sectionTold (s.Refused k) = toldRefused k
-sectionTold (s.Cut r) = record { refusal = 0; answer = r }
+sectionTold (s.Cut r) = record { refusal = 0; answer = r .stitched }
 
 -- the points, and the loops by their nodes; a refusal has none
 abbrev pub pointsOf : Outcome Answer → List Vector

@@ -4,10 +4,15 @@ ghost use Rattle.stitch.specs.Entry.{Gave, buffers, lengths, room, secti
 use crate::Stitched;
 use crate::stitch_segments;
 
-// The number of a refusal, or how much was written and the counts of edges.
+// The number of a refusal, or the section.
 pub enum Section {
     Refused(u8),
-    Cut(Stitched),
+    Cut(Sectioned),
+}
+
+// How much was written and the counts of edges.
+pub struct Sectioned {
+    pub stitched: Stitched,
 }
 
 // Stitches segments of four numbers each, at most 384: their points, the nodes of the loops, and where each loop ends
@@ -35,7 +40,9 @@ pub fn stitch_alone(
     if !room(4 * s, s, s / 3, numbers.len(), nodes.len(), ends.len()) {
         return Section::Refused(7);
     }
-    Section::Cut(stitch_segments(segments, s, tol, numbers, nodes, ends))
+    Section::Cut(Sectioned {
+        stitched: stitch_segments(segments, s, tol, numbers, nodes, ends),
+    })
 }
 
 // Whether buffers of lengths a, b and c hold x numbers, y nodes and z ends.

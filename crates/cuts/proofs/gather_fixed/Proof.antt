@@ -1,10 +1,7 @@
 -- `gather_fixed` meets its contract. Assumes nothing.
-use mathlib.Core.Path.{ap, sym}
+use mathlib.Core.Path.{sym}
 use lib.Seq.{length-take-le}
-use Rattle.vector.specs.View.{frameOf}
 use Rattle.cell.specs.Read.{cell}
-use Rattle.cuts.specs.Cuts.{segmentsOn}
-use Rattle.cuts.proofs.Answers.{segments-same}
 use Rattle.cuts.proofs.Copying.{clips, faces-are, faces-there}
 use borrow.Author.Needs.{needs}
 use Rattle.cuts.proofs.gather_fixed.Statement.{statement}
@@ -45,7 +42,7 @@ same-length c = search needs
 returns : tie.Need-returns
 returns c = 
     let s = c .before .before .before .before .before .before .before .before .before .before .before .before .before .before .before .before .before .before in
-    segments-same (ap (segmentsOn (frameOf (s .args .plane)) (s .args .tol)) (faces-are (cell (s .args .t) (s .args .conn .now) (s .args .xs .now)) (s .pre .0 .accepted) (c .before .before .before .before .before .before .before .before .before .before .before .before .copy-space-cell .ensures))) (c .before .before .before .before .cell-segments .ensures)
+    rw (← faces-are (cell (s .args .t) (s .args .conn .now) (s .args .xs .now)) (s .pre .0 .accepted) (c .before .before .before .before .before .before .before .before .before .before .before .before .copy-space-cell .ensures)) (c .before .before .before .before .cell-segments .ensures)
 
 pub gather-fixed-spec : {M : Type 1} → statement M
 gather-fixed-spec =
