@@ -22,7 +22,7 @@ use Rattle.clip.specs.Code.{Segments}
 use Rattle.weld.specs.Weld.{Edge, Within, between, listed, listedEdges, weldedPoints}
 use Rattle.weld.proofs.Edges.{listed-within, newer-unlisted}
 use Rattle.stitch.specs.Claim.{All, lastOr, sides, steps}
-use Rattle.stitch.specs.Code.{Below, cut, Gave}
+use Rattle.stitch.specs.Code.{Answered, Below, cut}
 use Rattle.stitch.specs.Stitch.{Answer, ruleOf, stitched}
 use Rattle.stitch.specs.declared.Stitched.{Stitched}
 use Rattle.stitch.proofs.Claim.{claim}
@@ -99,7 +99,7 @@ nodes-below tol ss =
 -- ---- what was written, as its reader takes it
 
 module _ {a : Answer} {r : Stitched} {numbers numbers′ : List Float} {nodes nodes′ ends ends′ : List ℕ}
-    (g : Gave a r numbers numbers′ nodes nodes′ ends ends′) where
+    (g : Answered a r numbers numbers′ nodes nodes′ ends ends′) where
   pub nodes-taken : take (r .nodes) nodes′ ≡ flatten (a .loops)
   nodes-taken = ap (take (r .nodes)) (g .nodes-are) ∙ take-at (flatten (a .loops)) (drop (length (flatten (a .loops))) nodes) (r .nodes)
       (sym (g .node-count))
@@ -177,7 +177,7 @@ pub record Scratch (m : ℕ) (points polygon clipped flat : List Float) : Type 0
 pub loops-ready : (f : Frame) (tol : Float) (m : ℕ) (ps : List Polygon) {points : List Float} {nodes ends : List ℕ} {r : Stitched}
     {points′ polygon clipped flat numbers : List Float} {nodes′ ends′ : List ℕ}
     → length (flatten ps) ≤ m → Scratch m points′ polygon clipped flat → 14 * length (flatten ps) ≤ length numbers
-    → Gave (sectionOf f tol ps) r points points′ nodes nodes′ ends ends′
+    → Answered (sectionOf f tol ps) r points points′ nodes nodes′ ends ends′
     → Loops (r .points) points′ (take (r .nodes) nodes′) (take (r .loops) ends′) polygon clipped flat numbers
 loops-ready f tol m ps {r = r} {nodes′ = nodes′} {ends′ = ends′} l h room g =
     let ss = segmentsOn f tol ps in

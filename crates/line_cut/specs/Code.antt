@@ -5,15 +5,26 @@ use lib.ListN.{length}
 use lib.Ieee.{Float}
 use Rattle.vector.specs.Vector.{Vector, Frame}
 use Rattle.vector.specs.Rows.{Seg}
-use Rattle.cell.specs.Read.{Cell, spaceCell, cornersOf, Accepted}
+use Rattle.cell.specs.Read.{Polygon, Cell, spaceCell, cornersOf, Accepted}
 use Rattle.clip.specs.Cell.{atMost}
+use Rattle.clip.specs.Code.{Segments}
+use Rattle.clip.specs.declared.Found.{Found}
+use Rattle.cuts.specs.Cuts.{sectionOf}
 use Rattle.stitch.specs.Code.{Below, cut}
-use Rattle.line_cut.specs.LineCut.{loopsSegments, segmentOnLine}
+use Rattle.line_cut.specs.LineCut.{lineOfSection, loopsSegments, segmentOnLine}
 
 -- what the work on an accepted cell needs: room for its segments
 pub record CanLine (k : Cell) (numbers : List Float) : Type 0 where
   pub accepted : Accepted (spaceCell k)
   pub room : 14 * cornersOf (spaceCell k) ≤ length numbers
+
+-- the segments on the line of a cell's section are given, after which the buffer is as it was
+pub record LineGiven (f : Frame) (tol : Float) (ps : List Polygon) (xs : List Float) (r : Found) (zs : List Float) : Type 0 where
+  pub segments : Segments 3 xs (lineOfSection f tol (sectionOf f tol ps)) (r .segments) zs
+
+-- the segments ss of loops stand in the buffer
+pub record LoopCut (xs : List Float) (ss : List Seg) (r : Found) (zs : List Float) : Type 0 where
+  pub segments : Segments 3 xs ss (r .segments) zs
 
 -- the segments on the line of loops whose nodes stand in a row and end at `ends`
 abbrev pub onLineOf : Frame → Float → List Vector → List ℕ → List ℕ → List Seg

@@ -11,13 +11,14 @@ ghost use Rattle.clip.specs.Code.{Points, Segments};
 ghost use Rattle.clip.specs.View.{cut2};
 ghost use Rattle.stitch.specs.Code.{Below};
 ghost use Rattle.stitch.specs.Walk.{pointAt};
-ghost use Rattle.cuts.specs.Cuts.{sectionOf, through};
+ghost use Rattle.cuts.specs.Cuts.{through};
 ghost use Rattle.cuts.specs.Lines.{GaveLine, lineTold};
 ghost use Rattle.cuts.specs.Code.{CellWithin};
-ghost use Rattle.line_cut.specs.LineCut.{axis, lineCut, lineOfSection, loopSegments, onLine, segmentOnLine};
-ghost use Rattle.line_cut.specs.Code.{CanLine, Loop, Loops, onLineOf};
+ghost use Rattle.line_cut.specs.LineCut.{axis, lineCut, loopSegments, onLine, segmentOnLine};
+ghost use Rattle.line_cut.specs.Code.{CanLine, LineGiven, Loop, LoopCut, Loops, onLineOf};
 use cell::Reading;
 use cell::types::SpaceType;
+use clip::Found;
 use clip::plane::Cut;
 use cuts::Line;
 use cuts::Placing;
@@ -58,13 +59,12 @@ pub fn slice_line_3d(
     }
 }
 
-// The cut of an accepted cell by the line y = 0 of a plane. Gives how many segments there are.
-fn line_cell(t: u8, conn: &[u64], xs: &[f64], plane: Plane, tol: f64, numbers: &mut [f64]) -> usize
+// The cut of an accepted cell by the line y = 0 of a plane.
+fn line_cell(t: u8, conn: &[u64], xs: &[f64], plane: Plane, tol: f64, numbers: &mut [f64]) -> Found
     requires { ⌜ CanLine (cell t (now conn) (now xs)) (now numbers) ⌝ }
-    ensures { λ r. ⌜ Segments 3 (now (numbers .entry))
-        (lineOfSection (frameOf plane) tol
-        (sectionOf (frameOf plane) tol (polygonsOf (spaceCell (cell t (now (conn .entry)) (now (xs .entry)))))))
-        r (now (numbers .exit)) ⌝ }
+    ensures { λ r. ⌜ LineGiven (frameOf plane) tol
+        (polygonsOf (spaceCell (cell t (now (conn .entry)) (now (xs .entry))))) (now (numbers .entry)) r
+        (now (numbers .exit)) ⌝ }
 {
     if t != SpaceType::PHED {
         return line_fixed(t, conn, xs, plane, tol, numbers);
@@ -73,13 +73,12 @@ fn line_cell(t: u8, conn: &[u64], xs: &[f64], plane: Plane, tol: f64, numbers: &
 }
 
 // The section of any cell by the plane, and each of its loops cut by y = 0.
-fn line_large(t: u8, conn: &[u64], xs: &[f64], plane: Plane, tol: f64, numbers: &mut [f64]) -> usize
+fn line_large(t: u8, conn: &[u64], xs: &[f64], plane: Plane, tol: f64, numbers: &mut [f64]) -> Found
     requires { ⌜ CanLine (cell t (now conn) (now xs)) (now numbers)
         × CellWithin 256 85 256 (cell t (now conn) (now xs)) ⌝ }
-    ensures { λ r. ⌜ Segments 3 (now (numbers .entry))
-        (lineOfSection (frameOf plane) tol
-        (sectionOf (frameOf plane) tol (polygonsOf (spaceCell (cell t (now (conn .entry)) (now (xs .entry)))))))
-        r (now (numbers .exit)) ⌝ }
+    ensures { λ r. ⌜ LineGiven (frameOf plane) tol
+        (polygonsOf (spaceCell (cell t (now (conn .entry)) (now (xs .entry))))) (now (numbers .entry)) r
+        (now (numbers .exit)) ⌝ }
 {
     let mut points = [0.0f64; 1536];
     let mut nodes = [0u32; 384];
@@ -87,7 +86,8 @@ fn line_large(t: u8, conn: &[u64], xs: &[f64], plane: Plane, tol: f64, numbers: 
     let mut polygon = [0.0f64; 768];
     let mut clipped = [0.0f64; 1152];
     let mut flat = [0.0f64; 2304];
-    let s = cuts::section_large(t, conn, xs, plane, tol, &mut points, &mut nodes, &mut ends);
+    let section = cuts::section_large(t, conn, xs, plane, tol, &mut points, &mut nodes, &mut ends);
+    let s = section.stitched;
     let n = s.nodes;
     let f = s.loops;
     cut_loops(
@@ -105,12 +105,11 @@ fn line_large(t: u8, conn: &[u64], xs: &[f64], plane: Plane, tol: f64, numbers: 
 }
 
 // The same of a cell of every type but polyhedra.
-fn line_fixed(t: u8, conn: &[u64], xs: &[f64], plane: Plane, tol: f64, numbers: &mut [f64]) -> usize
+fn line_fixed(t: u8, conn: &[u64], xs: &[f64], plane: Plane, tol: f64, numbers: &mut [f64]) -> Found
     requires { ⌜ CanLine (cell t (now conn) (now xs)) (now numbers) × CellWithin 24 6 4 (cell t (now conn) (now xs)) ⌝ }
-    ensures { λ r. ⌜ Segments 3 (now (numbers .entry))
-        (lineOfSection (frameOf plane) tol
-        (sectionOf (frameOf plane) tol (polygonsOf (spaceCell (cell t (now (conn .entry)) (now (xs .entry)))))))
-        r (now (numbers .exit)) ⌝ }
+    ensures { λ r. ⌜ LineGiven (frameOf plane) tol
+        (polygonsOf (spaceCell (cell t (now (conn .entry)) (now (xs .entry))))) (now (numbers .entry)) r
+        (now (numbers .exit)) ⌝ }
 {
     let mut points = [0.0f64; 144];
     let mut nodes = [0u32; 36];
@@ -118,7 +117,8 @@ fn line_fixed(t: u8, conn: &[u64], xs: &[f64], plane: Plane, tol: f64, numbers: 
     let mut polygon = [0.0f64; 72];
     let mut clipped = [0.0f64; 108];
     let mut flat = [0.0f64; 216];
-    let s = cuts::section_fixed(t, conn, xs, plane, tol, &mut points, &mut nodes, &mut ends);
+    let section = cuts::section_fixed(t, conn, xs, plane, tol, &mut points, &mut nodes, &mut ends);
+    let s = section.stitched;
     let n = s.nodes;
     let f = s.loops;
     cut_loops(
@@ -147,9 +147,9 @@ fn cut_loops(
     clipped: &mut [f64],
     flat: &mut [f64],
     numbers: &mut [f64],
-) -> usize
+) -> Found
     requires { ⌜ Loops p (now points) (now nodes) (now ends) (now polygon) (now clipped) (now flat) (now numbers) ⌝ }
-    ensures { λ r. ⌜ Segments 3 (now (numbers .entry))
+    ensures { λ r. ⌜ LoopCut (now (numbers .entry))
         (onLineOf (frameOf plane) tol (rows 2 p (now (points .entry))) (now (ends .entry)) (now (nodes .entry)))
         r (now (numbers .exit)) ⌝ }
 {
@@ -158,7 +158,7 @@ fn cut_loops(
     let mut i = 0;
     while i < ends.len() {
         let e = wide(ends[i]);
-        k = cut_loop(
+        let found = cut_loop(
             plane,
             tol,
             points,
@@ -170,13 +170,14 @@ fn cut_loops(
             numbers,
             k,
         );
+        k = found.segments;
         s = e;
         i += 1;
     }
-    k
+    Found { segments: k }
 }
 
-// Cuts one loop by y = 0: its segments on the line, after the `from` in numbers. Gives how many there are then.
+// Cuts one loop by y = 0: its segments on the line, after the `from` in numbers. Tells how many there are then.
 fn cut_loop(
     plane: Plane,
     tol: f64,
@@ -188,18 +189,20 @@ fn cut_loop(
     flat: &mut [f64],
     numbers: &mut [f64],
     from: usize,
-) -> usize
+) -> Found
     requires { ⌜ Loop p (now points) (now nodes) (now polygon) (now clipped) (now flat)
         × (6 * (from + atMost (length (now nodes))) ≤ length (now numbers)) ⌝ }
-    ensures { λ r. ⌜ Segments 3 (now (numbers .entry))
+    ensures { λ r. ⌜ LoopCut (now (numbers .entry))
         (segs 3 from (now (numbers .entry))
         ++ map (segmentOnLine (frameOf plane))
         (loopSegments tol (rows 2 p (now (points .entry))) (now (nodes .entry))))
         r (now (numbers .exit)) ⌝ }
 {
     loop_points(points, p, nodes, polygon);
-    let k = clip::plane::plane_section_segments(polygon, nodes.len(), axis(tol), clipped, flat);
-    put_on_line(flat, k, plane, numbers, from)
+    let found = clip::plane::plane_section_segments(polygon, nodes.len(), axis(tol), clipped, flat);
+    Found {
+        segments: put_on_line(flat, found.segments, plane, numbers, from),
+    }
 }
 
 // The line y = 0 with a tolerance.

@@ -5,9 +5,12 @@ use Prim.Native.Nat.{ℕ, _*_, _≤_}
 use lib.ListN.{length}
 use lib.Ieee.{Float}
 use Rattle.rows.specs.Outcome.{Outcome, refused, found}
-use Rattle.cell.specs.Read.{Cell, planeCell, cornersOf, Accepted}
+use Rattle.cell.specs.Read.{Polygon, Cell, planeCell, cornersOf, Accepted}
 use Rattle.clip.specs.Clip.{Cut}
+use Rattle.clip.specs.Code.{Segments}
 use Rattle.clip.specs.View.{cut2}
+use Rattle.clip.specs.declared.Found.{Found}
+use Rattle.plane_cell.specs.PlaneCell.{polygonSegments}
 use Rattle.plane_cell.specs.declared.Cutting as C
 use Rattle.plane_cell.specs.declared.Cutting.the-variants as c
 
@@ -21,3 +24,7 @@ pub record CanCut (k : Cell) (n : ℕ) (numbers : List Float) : Type 0 where
   pub accepted : Accepted (planeCell k)
   pub corners : n ≡ cornersOf (planeCell k)
   pub room : 6 * n ≤ length numbers
+
+-- the segments of a cell's one polygon are given
+pub record PolygonCut (l : Cut) (ps : List Polygon) (xs : List Float) (r : Found) (zs : List Float) : Type 0 where
+  pub segments : Segments 2 xs (polygonSegments l ps) (r .segments) zs

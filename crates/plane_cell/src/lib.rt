@@ -4,14 +4,14 @@ ghost use Prim.Native.Nat.{_≤_};
 ghost use lib.ListN.{length};
 ghost use Rattle.vector.specs.View.{unit2, vec2};
 ghost use Rattle.cell.specs.Read.{cell, planeCell, polygonsOf};
-ghost use Rattle.clip.specs.Code.{Segments};
 ghost use Rattle.clip.specs.View.{cut2};
 ghost use Rattle.cuts.specs.Cuts.{through};
 ghost use Rattle.cuts.specs.Lines.{GaveLine, lineTold};
 ghost use Rattle.cuts.specs.declared.Way.the-variants as way;
-ghost use Rattle.plane_cell.specs.PlaneCell.{lineThrough, normalBy, planeCellCut, polygonSegments};
-ghost use Rattle.plane_cell.specs.Code.{CanCut, cutting};
+ghost use Rattle.plane_cell.specs.PlaneCell.{lineThrough, normalBy, planeCellCut};
+ghost use Rattle.plane_cell.specs.Code.{CanCut, PolygonCut, cutting};
 use cell::Reading;
+use clip::Found;
 use clip::plane::Cut;
 use cuts::Line;
 use cuts::Way;
@@ -121,12 +121,11 @@ fn normal_by(by: Way, vector: Vec2) -> Unit2
     }
 }
 
-// The segments of an accepted cell of n corners on a line. Gives how many there are. Scratch comes in two tiers.
-fn line_cell(t: u8, conn: &[u64], xs: &[f64], n: usize, cut: Cut, numbers: &mut [f64]) -> usize
+// The segments of an accepted cell of n corners on a line. Scratch comes in two tiers.
+fn line_cell(t: u8, conn: &[u64], xs: &[f64], n: usize, cut: Cut, numbers: &mut [f64]) -> Found
     requires { ⌜ CanCut (cell t (now conn) (now xs)) n (now numbers) ⌝ }
-    ensures { λ r. ⌜ Segments 2 (now (numbers .entry))
-        (polygonSegments (cut2 cut) (polygonsOf (planeCell (cell t (now (conn .entry)) (now (xs .entry))))))
-        r (now (numbers .exit)) ⌝ }
+    ensures { λ r. ⌜ PolygonCut (cut2 cut) (polygonsOf (planeCell (cell t (now (conn .entry)) (now (xs .entry)))))
+        (now (numbers .entry)) r (now (numbers .exit)) ⌝ }
 {
     if n <= 4 {
         return line_small(t, conn, xs, n, cut, numbers);
@@ -135,11 +134,10 @@ fn line_cell(t: u8, conn: &[u64], xs: &[f64], n: usize, cut: Cut, numbers: &mut 
 }
 
 // Of at most four corners.
-fn line_small(t: u8, conn: &[u64], xs: &[f64], n: usize, cut: Cut, numbers: &mut [f64]) -> usize
+fn line_small(t: u8, conn: &[u64], xs: &[f64], n: usize, cut: Cut, numbers: &mut [f64]) -> Found
     requires { ⌜ CanCut (cell t (now conn) (now xs)) n (now numbers) × (n ≤ 4) ⌝ }
-    ensures { λ r. ⌜ Segments 2 (now (numbers .entry))
-        (polygonSegments (cut2 cut) (polygonsOf (planeCell (cell t (now (conn .entry)) (now (xs .entry))))))
-        r (now (numbers .exit)) ⌝ }
+    ensures { λ r. ⌜ PolygonCut (cut2 cut) (polygonsOf (planeCell (cell t (now (conn .entry)) (now (xs .entry)))))
+        (now (numbers .entry)) r (now (numbers .exit)) ⌝ }
 {
     let mut coords = [0.0f64; 8];
     let mut points = [0.0f64; 12];
@@ -148,11 +146,10 @@ fn line_small(t: u8, conn: &[u64], xs: &[f64], n: usize, cut: Cut, numbers: &mut
 }
 
 // Of at most 256.
-fn line_large(t: u8, conn: &[u64], xs: &[f64], n: usize, cut: Cut, numbers: &mut [f64]) -> usize
+fn line_large(t: u8, conn: &[u64], xs: &[f64], n: usize, cut: Cut, numbers: &mut [f64]) -> Found
     requires { ⌜ CanCut (cell t (now conn) (now xs)) n (now numbers) × (n ≤ 256) ⌝ }
-    ensures { λ r. ⌜ Segments 2 (now (numbers .entry))
-        (polygonSegments (cut2 cut) (polygonsOf (planeCell (cell t (now (conn .entry)) (now (xs .entry))))))
-        r (now (numbers .exit)) ⌝ }
+    ensures { λ r. ⌜ PolygonCut (cut2 cut) (polygonsOf (planeCell (cell t (now (conn .entry)) (now (xs .entry)))))
+        (now (numbers .entry)) r (now (numbers .exit)) ⌝ }
 {
     let mut coords = [0.0f64; 512];
     let mut points = [0.0f64; 768];

@@ -22,20 +22,16 @@ plane-section-segments-requires c κs = search needs
 
 put-on-line-requires : tie.Need-put-on-line-requires
 put-on-line-requires c κs =
-    let s = c .before .before .before .before .before .before .before .before .before .before .before .before .before .before .before
-    .before .before .before .before .before .before in
+    let s = c .before .before .before .before .before .before .before .before .before .before .before .before .before .before .before .before .before .before .before .before .before in
     let g = s .args in
     let ps = rows 2 (g .p) (g .points .now) in
-    let h = loop-segments (g .tol) ps (g .nodes .now) (c .before .before .before .before .before .before .before .before .before .axis
-    .ensures) (c .before .before .before .before .before .before .before .before .before .before .before .before .before .loop-points
-    .ensures) (c .before .before .before .before .before .before .plane-section-segments .ensures) in
+    let h = loop-segments (g .tol) ps (g .nodes .now) (c .before .before .before .before .before .before .before .before .before .axis .ensures) (c .before .before .before .before .before .before .before .before .before .before .before .before .before .loop-points .ensures) (c .before .before .before .before .before .before .plane-section-segments .ensures .segments) in
     let few = loop-few (g .tol) ps (g .nodes .now) h in
     let room = s .pre .0 .for-flat in
     (omega (arith, c .before .before .before .before .before .before .plane-section-segments .kept .1 .1 .1 .0), omega (arith, s .pre .1))
 
 same-length : tie.Need-same-length
-same-length c = c .before .before .before .before .before .before .before .before .before .before .before .before .before .before .before
-    .before .loop-points .kept .1 .1 .1 .0
+same-length c = c .before .before .before .before .before .before .before .before .before .before .before .before .before .before .before .before .loop-points .kept .1 .1 .1 .0
 
 same-length-2 : tie.Need-same-length-2
 same-length-2 c = c .before .before .before .before .before .before .before .before .before .plane-section-segments .kept .1 .1 .1 .0
@@ -48,16 +44,11 @@ same-length-4 c = c .before .before .put-on-line .kept .1 .1 .1 .0
 
 returns : tie.Need-returns
 returns c =
-    let s = c .before .before .before .before .before .before .before .before .before .before .before .before .before .before .before
-    .before .before .before .before .before .before .before .before .before in
+    let s = c .before .before .before .before .before .before .before .before .before .before .before .before .before .before .before .before .before .before .before .before .before .before .before .before in
     let g = s .args in
     let ps = rows 2 (g .p) (g .points .now) in
-    let h = loop-segments (g .tol) ps (g .nodes .now) (c .before .before .before .before .before .before .before .before .before .before
-    .before .before .axis .ensures) (c .before .before .before .before .before .before .before .before .before .before .before .before
-    .before .before .before .before .loop-points .ensures) (c .before .before .before .before .before .before .before .before .before
-    .plane-section-segments .ensures) in
-    segments-same (ap (λ l. segs 3 (g .from) (g .numbers .now) ++ map (segmentOnLine (frameOf (g .plane))) l) (h .are)) (c .before .before
-    .put-on-line .ensures)
+    let h = loop-segments (g .tol) ps (g .nodes .now) (c .before .before .before .before .before .before .before .before .before .before .before .before .axis .ensures) (c .before .before .before .before .before .before .before .before .before .before .before .before .before .before .before .before .loop-points .ensures) (c .before .before .before .before .before .before .before .before .before .plane-section-segments .ensures .segments) in
+    record { segments = segments-same (ap (λ l. segs 3 (g .from) (g .numbers .now) ++ map (segmentOnLine (frameOf (g .plane))) l) (h .are)) (c .before .before .put-on-line .ensures) }
 
 pub cut-loop-spec : {M : Type 1} → statement M
 cut-loop-spec =

@@ -100,7 +100,7 @@ loop-again c =
     let one = c .before .before .before .before .before .before .before .before .cut-loop in (
       loops-step (v .0) (c .before .before .before .before .before .before .before .before .before .before .before .before .before .before
           .before .before .loop-test .taken) (c .before .before .before .before .before .before .before .before .before .before .before .before
-          .before .before .wide .ensures) (one .ensures) (one .kept .1 .1 .1 .1 .1 .1 .1 .1 .0),
+          .before .before .wide .ensures) (one .ensures .segments) (one .kept .1 .1 .1 .1 .1 .1 .1 .1 .0),
       one .kept .1 .1 .1 .1 .1 .0 ∙ v .1,
       one .kept .1 .1 .1 .1 .1 .1 .0 ∙ v .2,
       one .kept .1 .1 .1 .1 .1 .1 .1 .0 ∙ v .3,
@@ -119,7 +119,7 @@ same-length-4 : tie.Need-same-length-4 Inv-loop μ-loop
 same-length-4 c = c .before .loop .inv .0 .same-length
 
 returns : tie.Need-returns Inv-loop μ-loop
-returns c = loops-end (c .before .loop .inv .0) (c .loop-test .left)
+returns c = record { segments = loops-end (c .before .loop .inv .0) (c .loop-test .left) }
 
 pub cut-loops-spec : {M : Type 1} → statement M
 cut-loops-spec =

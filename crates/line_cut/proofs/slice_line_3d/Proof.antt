@@ -67,8 +67,8 @@ same-length c = search needs
 returns-4 : tie.Need-returns-4
 returns-4 c = 
     let s = c .before .before .before .before .before .before .before .before .before .before .before .before .before .before .before .before .before .before in
-    line-gave {w = 3} (at-work (c .before .before .before .before .before .before .before .before .before .before .before .before .test-space-cell .ensures) (c .before .before .before .before .before .before .before .before .before .before .corners .given .1) (lineIn (s .args .tol) (length (s .args .numbers .now))) (sym (c .before .before .before .before .before .before .before .before .place .ensures) ∙ ap placing (c .before .before .before .before .before .before .plane .given .1)) (test-passed 7 _ _ (le-leb _ _ (c .before .before .before .before .if1 .left)))) (c .before .before .line-cell .ensures) (search needs)
-    (line-fits (frameOf (c .before .before .before .before .before .before .plane .given .0 .0)) (s .args .tol) (polygonsOf (spaceCell (cell (s .args .t) (s .args .conn .now) (s .args .xs .now)))) (omega (arith, corners-told (c .before .before .before .before .before .before .before .before .before .before .before .before .test-space-cell .ensures) (c .before .before .before .before .before .before .before .before .before .before .corners .given .1), c .before .before .before .before .if1 .left)) (c .before .before .line-cell .ensures))
+    line-gave {w = 3} (at-work (c .before .before .before .before .before .before .before .before .before .before .before .before .test-space-cell .ensures) (c .before .before .before .before .before .before .before .before .before .before .corners .given .1) (lineIn (s .args .tol) (length (s .args .numbers .now))) (sym (c .before .before .before .before .before .before .before .before .place .ensures) ∙ ap placing (c .before .before .before .before .before .before .plane .given .1)) (test-passed 7 _ _ (le-leb _ _ (c .before .before .before .before .if1 .left)))) (c .before .before .line-cell .ensures .segments) (search needs)
+    (line-fits (frameOf (c .before .before .before .before .before .before .plane .given .0 .0)) (s .args .tol) (polygonsOf (spaceCell (cell (s .args .t) (s .args .conn .now) (s .args .xs .now)))) (omega (arith, corners-told (c .before .before .before .before .before .before .before .before .before .before .before .before .test-space-cell .ensures) (c .before .before .before .before .before .before .before .before .before .before .corners .given .1), c .before .before .before .before .if1 .left)) (c .before .before .line-cell .ensures .segments))
 
 pub slice-line-3d-spec : {M : Type 1} → statement M
 slice-line-3d-spec =

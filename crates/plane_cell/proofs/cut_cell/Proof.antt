@@ -67,8 +67,8 @@ same-length c = search needs
 returns-4 : tie.Need-returns-4
 returns-4 c = 
     let s = c .before .before .before .before .before .before .before .before .before .before .before .before .before .before .before .before .before .before in
-    line-gave {w = 2} (at-work (c .before .before .before .before .before .before .before .before .before .before .before .before .test-plane-cell .ensures) (c .before .before .before .before .before .before .before .before .before .before .corners .given .1) (segmentsIn (length (s .args .numbers .now))) (sym (c .before .before .before .before .before .before .before .before .place .ensures) ∙ ap cutting (c .before .before .before .before .before .before .cut .given .1)) (test-passed 7 _ _ (le-leb _ _ (c .before .before .before .before .if1 .left)))) (c .before .before .line-cell .ensures) (search needs)
-    (segments-fit (cell (s .args .t) (s .args .conn .now) (s .args .xs .now)) (was-accepted (c .before .before .before .before .before .before .before .before .before .before .before .before .test-plane-cell .ensures) (c .before .before .before .before .before .before .before .before .before .before .corners .given .1)) (cut2 (c .before .before .before .before .before .before .cut .given .0 .0)) (omega (arith, corners-told (c .before .before .before .before .before .before .before .before .before .before .before .before .test-plane-cell .ensures) (c .before .before .before .before .before .before .before .before .before .before .corners .given .1), c .before .before .before .before .if1 .left)) (c .before .before .line-cell .ensures))
+    line-gave {w = 2} (at-work (c .before .before .before .before .before .before .before .before .before .before .before .before .test-plane-cell .ensures) (c .before .before .before .before .before .before .before .before .before .before .corners .given .1) (segmentsIn (length (s .args .numbers .now))) (sym (c .before .before .before .before .before .before .before .before .place .ensures) ∙ ap cutting (c .before .before .before .before .before .before .cut .given .1)) (test-passed 7 _ _ (le-leb _ _ (c .before .before .before .before .if1 .left)))) (c .before .before .line-cell .ensures .segments) (search needs)
+    (segments-fit (cell (s .args .t) (s .args .conn .now) (s .args .xs .now)) (was-accepted (c .before .before .before .before .before .before .before .before .before .before .before .before .test-plane-cell .ensures) (c .before .before .before .before .before .before .before .before .before .before .corners .given .1)) (cut2 (c .before .before .before .before .before .before .cut .given .0 .0)) (omega (arith, corners-told (c .before .before .before .before .before .before .before .before .before .before .before .before .test-plane-cell .ensures) (c .before .before .before .before .before .before .before .before .before .before .corners .given .1), c .before .before .before .before .if1 .left)) (c .before .before .line-cell .ensures .segments))
 
 pub cut-cell-spec : {M : Type 1} → statement M
 cut-cell-spec =

@@ -85,7 +85,7 @@ same-length-3 c = search needs
 returns-4 : tie.Need-returns-4
 returns-4 c = 
     let s = c .before .before .before .before .before .before .before .before .before .before .before .before .before .before .before .before .before .before .before .before .before .before .before .before .before .before .before in
-    gave-section (at-work (c .before .before .before .before .before .before .before .before .before .before .before .before .before .before .before .before .before .before .before .test-space-cell .ensures) (c .before .before .before .before .before .before .before .before .before .before .before .before .before .before .before .before .before .corners .given .1) (work s) (sym (c .before .before .before .before .before .before .before .before .before .before .before .before .before .before .before .place .ensures) ∙ ap placing (c .before .before .before .before .before .before .before .before .before .before .before .before .before .plane .given .1)) (test-passed 7 _ _ (sym (c .before .before .before .before .before .before .before .before .before .before .before .room .ensures) ∙ not-false _ (c .before .before .before .before .before .before .before .before .before .before .if1 .left)))) (c .before .before .before .before .before .before .section-cell .ensures)
+    gave-section (at-work (c .before .before .before .before .before .before .before .before .before .before .before .before .before .before .before .before .before .before .before .test-space-cell .ensures) (c .before .before .before .before .before .before .before .before .before .before .before .before .before .before .before .before .before .corners .given .1) (work s) (sym (c .before .before .before .before .before .before .before .before .before .before .before .before .before .before .before .place .ensures) ∙ ap placing (c .before .before .before .before .before .before .before .before .before .before .before .before .before .plane .given .1)) (test-passed 7 _ _ (sym (c .before .before .before .before .before .before .before .before .before .before .before .room .ensures) ∙ not-false _ (c .before .before .before .before .before .before .before .before .before .before .if1 .left)))) (c .before .before .before .before .before .before .section-cell .ensures .stitched)
 
 pub section-cell-by-plane-spec : {M : Type 1} → statement M
 section-cell-by-plane-spec =
