@@ -5,15 +5,14 @@ use Prim.Native.Nat.{ℕ, _<_, _≤_}
 use native.Mathlib.Omega.{arith}
 use lib.Ieee.{Float}
 use lib.ListN.{length}
+use Rattle.rows.specs.Outcome.{Outcome, refused, found, Sound}
 use Rattle.vector.specs.Rows.{Seg}
 use Rattle.stitch.specs.Stitch.{Answer}
-use Rattle.cuts.specs.Outcome.{Outcome, refused, found, Told, told, Gave, ToldLine, toldLine, GaveLine}
-use Rattle.cuts.specs.Claims.{Sound}
-use Rattle.plane_cut.specs.Claims.{Small}
+use Rattle.stitch.specs.Entry.{Buffers, Told, told, Gave, Small}
+use Rattle.cuts.specs.Lines.{ToldLine, toldLine, GaveLine}
 
-module _ {o : Outcome Answer} {r : Told} {numbers numbers′ : List Float} {nodes nodes′ ends ends′ : List ℕ}
-    (g : Gave o r numbers numbers′ nodes nodes′ ends ends′) where
-  pub retold : {s : Told} → s ≡ r → Gave o s numbers numbers′ nodes nodes′ ends ends′
+module _ {o : Outcome Answer} {r : Told} {b b′ : Buffers} (g : Gave o r b b′) where
+  pub retold : {s : Told} → s ≡ r → Gave o s b b′
   retold e = rw e g
 
   pub told-small : Small (told o) → Small r

@@ -1,5 +1,7 @@
 -- What the structs of the exports tell. Definitions only.
-use Rattle.cuts.specs.Outcome.{Told, ToldLine, ToldTolerance}
+use Rattle.vector.specs.Tolerance.{ToldTolerance}
+use Rattle.stitch.specs.Entry.{Told}
+use Rattle.cuts.specs.Lines.{ToldLine}
 use Rattle.cicelybeam.specs.declared.Section.{Section}
 use Rattle.cicelybeam.specs.declared.Line.{Line}
 use Rattle.cicelybeam.specs.declared.Tolerance.{Tolerance}
@@ -9,13 +11,13 @@ abbrev pub toldIn : Section → Told
 toldIn r =
     record {
       refusal = r .refusal;
-      points = r .points;
-      nodes = r .nodes;
-      loops = r .loops;
-      listed = r .listed;
-      inLoops = r .«in_loops»;
-      flat = r .flat;
-      opened = r .opened;
+      answer =
+          record {
+            points = r .points;
+            nodes = r .nodes;
+            loops = r .loops;
+            counts = record { listed = r .listed; «in_loops» = r .«in_loops»; flat = r .flat; opened = r .opened };
+          };
     }
 
 -- a line section's

@@ -4,11 +4,15 @@ ghost use Prim.Native.Nat.{_<_};
 ghost use lib.Ieee.{binary64};
 ghost use lib.ListN.{length};
 ghost use Rattle.root.specs.Root.{sqrtOf};
-ghost use Rattle.cuts.specs.Outcome.{Gave, GaveLine, toldTolerance};
-ghost use Rattle.cuts.specs.Entries.{byDirection, byNormal, lineCut, planeCut, stitchAlone, toleranceOf};
-ghost use Rattle.plane_cut.specs.Claims.{Small};
-ghost use Rattle.plane_cut.specs.Code.{counted, meaning, toleranceMeaning};
-ghost use Rattle.cuts.specs.Code.{meaning as lineMeaning};
+ghost use Rattle.vector.specs.Tolerance.{toldTolerance, toleranceOf, toleranceTold};
+ghost use Rattle.cell.specs.Read.{cell};
+ghost use Rattle.stitch.specs.Entry.{Gave, Small, buffers, lengths, sectionTold, stitchAlone};
+ghost use Rattle.cuts.specs.Cuts.{through};
+ghost use Rattle.cuts.specs.Lines.{GaveLine, lineTold};
+ghost use Rattle.cuts.specs.declared.Way.the-variants as way;
+ghost use Rattle.plane_cut.specs.PlaneCut.{planeCut};
+ghost use Rattle.line_cut.specs.LineCut.{lineCut};
+ghost use Rattle.plane_cell.specs.PlaneCell.{planeCellCut};
 ghost use Rattle.cicelybeam.specs.Exports.{toldIn, toldLineIn, toldToleranceIn};
 
 // struct cicelybeam_section: refusal 0, how many points, nodes and loops were written, and the four counts of edges; or the
@@ -53,10 +57,10 @@ pub extern "C" fn cicelybeam_plane(
     ends: &mut [u32],
 ) -> Section
     ensures { λ r. ⌜ Gave
-        (planeCut kind (now (conn .entry)) (now (coords .entry)) (now (origin .entry)) (now (normal .entry)) tol
-        (length (now (numbers .entry))) (length (now (nodes .entry))) (length (now (ends .entry))))
-        (toldIn r) (now (numbers .entry)) (now (numbers .exit)) (now (nodes .entry)) (now (nodes .exit))
-        (now (ends .entry)) (now (ends .exit)) ⌝ }
+        (planeCut (cell kind (now (conn .entry)) (now (coords .entry))) (through (now (origin .entry)) (now (normal .entry))) tol
+        (lengths (buffers (now (numbers .entry)) (now (nodes .entry)) (now (ends .entry)))))
+        (toldIn r) (buffers (now (numbers .entry)) (now (nodes .entry)) (now (ends .entry)))
+        (buffers (now (numbers .exit)) (now (nodes .exit)) (now (ends .exit))) ⌝ }
 {
     told_section(plane_cut::section_cell_by_plane(
         kind,
@@ -83,8 +87,8 @@ pub extern "C" fn cicelybeam_line_in_space(
     numbers: &mut [f64],
 ) -> Line
     ensures { λ r. ⌜ GaveLine
-        (lineCut kind (now (conn .entry)) (now (coords .entry)) (now (origin .entry)) (now (direction .entry)) tol
-        (length (now (numbers .entry))))
+        (lineCut (cell kind (now (conn .entry)) (now (coords .entry)))
+        (through (now (origin .entry)) (now (direction .entry))) tol (length (now (numbers .entry))))
         (toldLineIn r) (now (numbers .entry)) (now (numbers .exit)) ⌝ }
 {
     told_line(line_cut::slice_line_3d(kind, conn, coords, origin, direction, tol, numbers))
@@ -102,8 +106,8 @@ pub extern "C" fn cicelybeam_plane_cell_by_normal(
     numbers: &mut [f64],
 ) -> Line
     ensures { λ r. ⌜ GaveLine
-        (byNormal kind (now (conn .entry)) (now (coords .entry)) (now (origin .entry)) (now (normal .entry)) tol
-        (length (now (numbers .entry))))
+        (planeCellCut way.Normal (cell kind (now (conn .entry)) (now (coords .entry)))
+        (through (now (origin .entry)) (now (normal .entry))) tol (length (now (numbers .entry))))
         (toldLineIn r) (now (numbers .entry)) (now (numbers .exit)) ⌝ }
 {
     told_line(plane_cell::slice_2d(kind, conn, coords, origin, normal, tol, numbers))
@@ -121,8 +125,8 @@ pub extern "C" fn cicelybeam_plane_cell_by_direction(
     numbers: &mut [f64],
 ) -> Line
     ensures { λ r. ⌜ GaveLine
-        (byDirection kind (now (conn .entry)) (now (coords .entry)) (now (origin .entry)) (now (direction .entry)) tol
-        (length (now (numbers .entry))))
+        (planeCellCut way.Direction (cell kind (now (conn .entry)) (now (coords .entry)))
+        (through (now (origin .entry)) (now (direction .entry))) tol (length (now (numbers .entry))))
         (toldLineIn r) (now (numbers .entry)) (now (numbers .exit)) ⌝ }
 {
     told_line(plane_cell::slice_line(kind, conn, coords, origin, direction, tol, numbers))
@@ -138,12 +142,12 @@ pub extern "C" fn cicelybeam_stitch(
     ends: &mut [u32],
 ) -> Section
     ensures { λ r. ⌜ Gave
-        (stitchAlone (now (segments .entry)) tol (length (now (numbers .entry))) (length (now (nodes .entry)))
-        (length (now (ends .entry))))
-        (toldIn r) (now (numbers .entry)) (now (numbers .exit)) (now (nodes .entry)) (now (nodes .exit))
-        (now (ends .entry)) (now (ends .exit)) ⌝ }
+        (stitchAlone (now (segments .entry)) tol
+        (lengths (buffers (now (numbers .entry)) (now (nodes .entry)) (now (ends .entry)))))
+        (toldIn r) (buffers (now (numbers .entry)) (now (nodes .entry)) (now (ends .entry)))
+        (buffers (now (numbers .exit)) (now (nodes .exit)) (now (ends .exit))) ⌝ }
 {
-    told_section(plane_cut::stitch_alone(segments, tol, numbers, nodes, ends))
+    told_section(stitch::alone::stitch_alone(segments, tol, numbers, nodes, ends))
 }
 
 // The tolerance of a mesh in space, by its coordinates.
@@ -151,7 +155,7 @@ pub extern "C" fn cicelybeam_stitch(
 pub extern "C" fn cicelybeam_tolerance_in_space(coords: &[f64]) -> Tolerance
     ensures { λ r. ⌜ toldToleranceIn r ≡ toldTolerance (toleranceOf 3 (now (coords .entry))) ⌝ }
 {
-    told_tolerance(plane_cut::tolerance_in_space(coords))
+    told_tolerance(vector::tolerance_in_space(coords))
 }
 
 // The tolerance of a mesh in the plane.
@@ -159,7 +163,7 @@ pub extern "C" fn cicelybeam_tolerance_in_space(coords: &[f64]) -> Tolerance
 pub extern "C" fn cicelybeam_tolerance_in_plane(coords: &[f64]) -> Tolerance
     ensures { λ r. ⌜ toldToleranceIn r ≡ toldTolerance (toleranceOf 2 (now (coords .entry))) ⌝ }
 {
-    told_tolerance(plane_cut::tolerance_in_plane(coords))
+    told_tolerance(vector::tolerance_in_plane(coords))
 }
 
 // The square root as IEEE 754 has it.
@@ -171,12 +175,12 @@ pub extern "C" fn cicelybeam_sqrt(x: f64) -> f64
 }
 
 // An answer as a C struct.
-fn told_section(answer: plane_cut::Section) -> Section
-    requires { ⌜ Small (meaning answer) ⌝ }
-    ensures { λ r. ⌜ toldIn r ≡ meaning answer ⌝ }
+fn told_section(answer: stitch::alone::Section) -> Section
+    requires { ⌜ Small (sectionTold answer) ⌝ }
+    ensures { λ r. ⌜ toldIn r ≡ sectionTold answer ⌝ }
 {
     match answer {
-        plane_cut::Section::Refused(k) => Section {
+        stitch::alone::Section::Refused(k) => Section {
             refusal: k as u32,
             points: 0,
             nodes: 0,
@@ -186,54 +190,55 @@ fn told_section(answer: plane_cut::Section) -> Section
             flat: 0,
             opened: 0,
         },
-        plane_cut::Section::Cut(s) => counted(s),
+        stitch::alone::Section::Cut(s) => told_stitched(s.stitched),
     }
 }
 
 // A section's numbers in 32 bits.
-fn counted(s: stitch::Stitched) -> Section
-    requires { ⌜ Small (counted s) ⌝ }
-    ensures { λ r. ⌜ toldIn r ≡ counted s ⌝ }
+fn told_stitched(s: stitch::Stitched) -> Section
+    requires { ⌜ Small (record { refusal = 0; answer = s }) ⌝ }
+    ensures { λ r. ⌜ toldIn r ≡ record { refusal = 0; answer = s } ⌝ }
 {
+    let counts = s.counts;
     Section {
         refusal: 0,
         points: narrow(s.points),
         nodes: narrow(s.nodes),
         loops: narrow(s.loops),
-        listed: narrow(s.listed),
-        in_loops: narrow(s.in_loops),
-        flat: narrow(s.flat),
-        opened: narrow(s.opened),
+        listed: narrow(counts.listed),
+        in_loops: narrow(counts.in_loops),
+        flat: narrow(counts.flat),
+        opened: narrow(counts.opened),
     }
 }
 
 // A line section as a C struct.
 fn told_line(answer: cuts::Line) -> Line
-    requires { ⌜ lineMeaning answer .segments < 4294967296 ⌝ }
-    ensures { λ r. ⌜ toldLineIn r ≡ lineMeaning answer ⌝ }
+    requires { ⌜ lineTold answer .segments < 4294967296 ⌝ }
+    ensures { λ r. ⌜ toldLineIn r ≡ lineTold answer ⌝ }
 {
     match answer {
         cuts::Line::Refused(k) => Line {
             refusal: k as u32,
             segments: 0,
         },
-        cuts::Line::Cut(n) => Line {
+        cuts::Line::Cut(found) => Line {
             refusal: 0,
-            segments: narrow(n),
+            segments: narrow(found.segments),
         },
     }
 }
 
 // A tolerance as a C struct.
-fn told_tolerance(answer: plane_cut::Tolerance) -> Tolerance
-    ensures { λ r. ⌜ toldToleranceIn r ≡ toleranceMeaning answer ⌝ }
+fn told_tolerance(answer: vector::Tolerance) -> Tolerance
+    ensures { λ r. ⌜ toldToleranceIn r ≡ toleranceTold answer ⌝ }
 {
     match answer {
-        plane_cut::Tolerance::Refused(k) => Tolerance {
+        vector::Tolerance::Refused(k) => Tolerance {
             refusal: k as u32,
             value: 0.0,
         },
-        plane_cut::Tolerance::Of(x) => Tolerance {
+        vector::Tolerance::Of(x) => Tolerance {
             refusal: 0,
             value: x,
         },

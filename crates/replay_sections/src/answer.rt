@@ -3,9 +3,9 @@ ghost use Prim.Native.Nat.{_+_, _≤_, min};
 ghost use lib.ListN.{length};
 ghost use Rattle.replay_sections.specs.Code.{InOrder, Whole};
 use cuts::Line;
-use plane_cut::Section;
-use plane_cut::Tolerance;
 use stitch::Stitched;
+use stitch::alone::Section;
+use vector::Tolerance;
 
 // Where the lists of a case begin, with their lengths; the first at word 3. The lengths of the buffers follow the last.
 pub struct Lists {
@@ -108,29 +108,30 @@ fn enter(
         2 => told_line(line_cut::slice_line_3d(t, conn, xs, origin, vector, tol, numbers)),
         3 => told_line(plane_cell::slice_2d(t, conn, xs, origin, vector, tol, numbers)),
         4 => told_line(plane_cell::slice_line(t, conn, xs, origin, vector, tol, numbers)),
-        5 => told(plane_cut::stitch_alone(segments, tol, numbers, nodes, ends)),
-        6 => told_tolerance(plane_cut::tolerance_in_space(xs)),
-        _ => told_tolerance(plane_cut::tolerance_in_plane(xs)),
+        5 => told(stitch::alone::stitch_alone(segments, tol, numbers, nodes, ends)),
+        6 => told_tolerance(vector::tolerance_in_space(xs)),
+        _ => told_tolerance(vector::tolerance_in_plane(xs)),
     }
 }
 
 fn told(s: Section) -> [u64; 9] {
     match s {
         Section::Refused(k) => refusal(k),
-        Section::Cut(s) => counts(s),
+        Section::Cut(s) => counts(s.stitched),
     }
 }
 
 fn counts(s: Stitched) -> [u64; 9] {
+    let edges = s.counts;
     [
         0,
         s.points as u64,
         s.nodes as u64,
         s.loops as u64,
-        s.listed as u64,
-        s.in_loops as u64,
-        s.flat as u64,
-        s.opened as u64,
+        edges.listed as u64,
+        edges.in_loops as u64,
+        edges.flat as u64,
+        edges.opened as u64,
         0,
     ]
 }
@@ -138,7 +139,7 @@ fn counts(s: Stitched) -> [u64; 9] {
 fn told_line(l: Line) -> [u64; 9] {
     match l {
         Line::Refused(k) => refusal(k),
-        Line::Cut(n) => [0, n as u64, 0, 0, 0, 0, 0, 0, 0],
+        Line::Cut(found) => [0, found.segments as u64, 0, 0, 0, 0, 0, 0, 0],
     }
 }
 

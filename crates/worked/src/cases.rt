@@ -3,19 +3,17 @@ ghost use mathlib.Core.Path.{_≡_};
 ghost use Prim.Native.Nat.{_≤_};
 ghost use lib.ListN.{length};
 use crate::show;
-use crate::show::NO_END;
 use crate::show::NO_INDEX;
 use crate::show::NO_NUMBER;
-use cell::Reading;
 
-// The rows of eight nodes, each beginning with its node's number.
+// The nodes of case 1, each at its number along x, the odd ones of its triangles above the plane z = 0.5.
 const ROWS: [f64; 24] = [
     0.0,
     0.0,
     0.0,
     1.0,
     0.0,
-    0.0,
+    1.0,
     2.0,
     0.0,
     0.0,
@@ -24,41 +22,23 @@ const ROWS: [f64; 24] = [
     0.0,
     4.0,
     0.0,
-    0.0,
+    1.0,
     5.0,
     0.0,
     0.0,
     6.0,
     0.0,
-    0.0,
+    1.0,
     7.0,
     0.0,
     0.0,
 ];
 
-// The faces of the PHED 0 1 2 MAX a b MAX 5 6 7.
+// The PHED 0 1 2 MAX a b MAX 5 6 7 cut at z = 0.5: an open edge for each face that is kept.
 pub fn faces(a: u64, b: u64) {
     let ended = 0xffff_ffff_ffff_ffff;
     let conn = [0, 1, 2, ended, a, b, ended, 5, 6, 7];
-    let mut corners = [NO_NUMBER; 771];
-    let mut ends = [NO_END; 86];
-    faces_in(&conn, &mut corners, &mut ends);
-}
-
-fn faces_in(conn: &[u64], corners: &mut [f64], ends: &mut [usize])
-    requires { ⌜ (771 ≡ length (now corners)) × (86 ≡ length (now ends)) ⌝ }
-{
-    let r = cell::test_space_cell(18, conn, &ROWS);
-    match r {
-        Reading::Refused(_) => show::faces(r, corners, ends),
-        Reading::Cell {
-            corners: _,
-            faces: _,
-        } => {
-            cell::copy_space_cell(18, conn, &ROWS, corners, ends);
-            show::faces(r, corners, ends);
-        }
-    }
+    by_plane(18, &conn, &ROWS, &[0.0, 0.0, 0.5], &[0.0, 0.0, 1.0]);
 }
 
 // A cell cut by a plane.
@@ -161,7 +141,7 @@ fn stitched_in(
     nodes: &mut [u32],
     ends: &mut [u32],
 ) {
-    let s = plane_cut::stitch_alone(segments, tol, numbers, nodes, ends);
+    let s = stitch::alone::stitch_alone(segments, tol, numbers, nodes, ends);
     show::section(s, numbers, nodes, ends);
 }
 
@@ -187,7 +167,7 @@ fn zigzag_in(
 {
     up_and_down(n, segments);
     let k = 4 * n;
-    let s = plane_cut::stitch_alone(&segments[..k], 0.0, numbers, nodes, ends);
+    let s = stitch::alone::stitch_alone(&segments[..k], 0.0, numbers, nodes, ends);
     show::section(s, numbers, nodes, ends);
 }
 

@@ -96,7 +96,7 @@ fn main() {
     limits();
 }
 
-// Case 1: the corners of the faces of a PHED. The nodes of a face that is dropped need be no rows.
+// Case 1: the faces of a PHED. The nodes of a face that is dropped need be no rows.
 fn polyhedron() {
     text(b"case 1, PHED 0 1 2 MAX 3 4 MAX 5 6 7:");
     cases::faces(3, 4);
@@ -137,7 +137,7 @@ fn stitching() {
 // Cases 11 and 12: a tolerance and two roots.
 fn numbers() {
     text(b"case 11, row (3, 4, 0):");
-    show::tolerance(plane_cut::tolerance_in_space(&[3.0, 4.0, 0.0]));
+    show::tolerance(vector::tolerance_in_space(&[3.0, 4.0, 0.0]));
     text(b"case 12, root of 4: ");
     number::print(root::sqrt(4.0));
     text(b"\ncase 12, root of 2^-1074: ");

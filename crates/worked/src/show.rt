@@ -1,19 +1,16 @@
 // Answers as text, a line each.
 ghost use Prim.Native.Nat.{_^_, _<_, _≤_};
 use crate::number;
-use cell::Reading;
 use cuts::Line;
 use libc::STDOUT_FILENO;
-use plane_cut::Section;
-use plane_cut::Tolerance;
 use stitch::Stitched;
+use stitch::alone::Section;
+use vector::Tolerance;
 
 // What stands in the buffers before an entry is called.
 pub const NO_NUMBER: f64 = -77.0;
 
 pub const NO_INDEX: u32 = 77777;
-
-pub const NO_END: usize = 77777;
 
 pub fn text(bytes: &[u8]) {
     io::write_all(STDOUT_FILENO, bytes);
@@ -48,7 +45,7 @@ pub fn section(s: Section, numbers: &[f64], nodes: &[u32], ends: &[u32]) {
             refusal(k);
             kept(numbers, nodes, ends);
         }
-        Section::Cut(s) => cut(s, numbers, nodes, ends),
+        Section::Cut(s) => cut(s.stitched, numbers, nodes, ends),
     }
 }
 
@@ -194,11 +191,12 @@ fn index(x: u32) -> usize
 }
 
 fn edges(s: Stitched) {
+    let counts = s.counts;
     text(b" edges");
-    count(s.listed);
-    count(s.in_loops);
-    count(s.flat);
-    count(s.opened);
+    count(counts.listed);
+    count(counts.in_loops);
+    count(counts.flat);
+    count(counts.opened);
     text(b";");
 }
 
@@ -211,7 +209,7 @@ pub fn line(l: Line, numbers: &[f64], each: usize)
             refusal(k);
             verdict(numbers_kept(numbers));
         }
-        Line::Cut(n) => segments(n, numbers, each),
+        Line::Cut(found) => segments(found.segments, numbers, each),
     }
 }
 
@@ -285,75 +283,4 @@ fn indices_kept(nodes: &[u32]) -> bool {
         i += 1;
     }
     true
-}
-
-fn ends_kept(ends: &[usize]) -> bool {
-    let mut i = 0;
-    while i < ends.len() {
-        if ends[i] != NO_END {
-            return false;
-        }
-        i += 1;
-    }
-    true
-}
-
-// The faces of a cell whose corners' rows begin with their node's number.
-pub fn faces(r: Reading, rows: &[f64], ends: &[usize]) {
-    match r {
-        Reading::Refused(k) => {
-            refusal(k);
-            verdict(numbers_kept(rows));
-        }
-        Reading::Cell { corners, faces } => faces_of(corners, faces, rows, ends),
-    }
-}
-
-fn faces_of(corners: usize, faces: usize, rows: &[f64], ends: &[usize]) {
-    if corners > rows.len() / 3 {
-        return;
-    }
-    if faces > ends.len() {
-        return;
-    }
-    let q = 3 * corners;
-    each_face(&rows[..q], &ends[..faces]);
-    if !numbers_kept(&rows[q..]) {
-        verdict(false);
-        return;
-    }
-    verdict(ends_kept(&ends[faces..]));
-}
-
-fn each_face(rows: &[f64], ends: &[usize]) {
-    let mut from = 0;
-    let mut i = 0;
-    while i < ends.len() {
-        let to = ends[i];
-        if to < from {
-            return;
-        }
-        if to > rows.len() / 3 {
-            return;
-        }
-        face(&rows[3 * from..3 * to]);
-        from = to;
-        i += 1;
-    }
-}
-
-fn face(rows: &[f64]) {
-    text(b" face");
-    corners(rows);
-    text(b";");
-}
-
-fn corners(rows: &[f64]) {
-    let n = rows.len() / 3;
-    let mut i = 0;
-    while i < n {
-        text(b" ");
-        number::print(rows[3 * i]);
-        i += 1;
-    }
 }

@@ -11,17 +11,19 @@ use Rattle.root.specs.Root.{sqrtOf}
 use Rattle.vector.specs.Number.{f0, f1, minusOne, half}
 use Rattle.vector.specs.Vector.{Vector, at, dotFrom, leastAlignedAxis, unit}
 use Rattle.vector.specs.Rows.{segs}
-use Rattle.vector.specs.Tolerance.{tolerance}
+use Rattle.rows.specs.Outcome.{Outcome, refused, found}
+use Rattle.vector.specs.Tolerance.{tolerance, toleranceOf}
 use Rattle.cell.specs.Types.{spaceType}
 use Rattle.cell.specs.Faces.{Face, facesOf, kept, separator, stretches}
-use Rattle.cell.specs.Read.{areRows, readAs}
-use Rattle.cell.specs.declared.Shape.the-variants.{Phed}
+use Rattle.cell.specs.Read.{areRows, cell, readAs}
+use Rattle.cell.specs.declared.types.Shape.the-variants.{Phed}
 use Rattle.clip.specs.Clip.{planeSectionSegments}
 use Rattle.weld.specs.Weld.{becomes, edgesFrom, listedEdges, pointsFrom, weldedPoints}
 use Rattle.stitch.specs.Walk.{walks, walksFrom}
 use Rattle.stitch.specs.Stitch.{Answer, f2, signedArea, stitchedWithin}
-use Rattle.cuts.specs.Outcome.{Outcome, refused, found}
-use Rattle.cuts.specs.Entries.{planeCut, stitchAlone, toleranceOf}
+use Rattle.stitch.specs.Entry.{stitchAlone}
+use Rattle.cuts.specs.Cuts.{through}
+use Rattle.plane_cut.specs.PlaneCut.{planeCut}
 
 -- ---- what is asked, and how it is answered
 
@@ -59,10 +61,10 @@ walked xs tol =
 unfoldable pub answered : Asked → Answered
 unfolding flatten stretches kept spaceType readAs areRows leastAlignedAxis unit dotFrom tolerance planeSectionSegments mul stitchedWithin pointsFrom becomes edgesFrom walksFrom
 answered (faces c) = positions (facesOf Phed c)
-answered (plane t c xs o n) = let r = planeCut t c xs o n f0 144 36 12 in sectioned r (areas r)
+answered (plane t c xs o n) = let r = planeCut (cell t c xs) (through o n) f0 (record { numbers = 144; nodes = 36; ends = 12 }) in sectioned r (areas r)
 answered (stitch xs tol) =
     let s = length xs / 4 in
-    stitched (stitchAlone xs tol (length xs) s (s / 3)) (walked xs tol)
+    stitched (stitchAlone xs tol (record { numbers = length xs; nodes = s; ends = s / 3 })) (walked xs tol)
 answered (toleranceIn xs) = number (toleranceOf 3 xs)
 answered (root x) = number (found (sqrtOf binary64 x))
 
@@ -77,7 +79,7 @@ case a r = record { asked = a; right = r }
 
 -- a section of points, loops and counts
 abbrev answer : List Vector → List (List ℕ) → ℕ → ℕ → ℕ → ℕ → Outcome Answer
-answer ps ls a b c d = found (record { points = ps; loops = ls; counts = record { listed = a; inLoops = b; flat = c; opened = d } })
+answer ps ls a b c d = found (record { points = ps; loops = ls; counts = record { listed = a; «in_loops» = b; flat = c; opened = d } })
 
 abbrev pt : Float → Float → Vector
 pt x y = x ∷ y ∷ []

@@ -1,6 +1,8 @@
 -- `cicelybeam_line_in_space` meets its contract. Assumes nothing.
 use native.Mathlib.Omega.{arith}
 use lib.ListN.{length}
+use Rattle.cell.specs.Read.{cell}
+use Rattle.cuts.specs.Cuts.{through}
 use Rattle.line_cut.proofs.Claims.{line-sound}
 use Rattle.cicelybeam.proofs.Exports.{line-small, line-retold}
 use borrow.Author.Needs.{needs}
@@ -14,7 +16,7 @@ told-line-requires : tie.Need-told-line-requires
 told-line-requires c κs =
     let g = c .before .before .before .before .before .before .before .before .before .args in
     line-small (c .before .before .slice-line-3d .ensures) 576
-    (line-sound (g .kind) (g .conn .now) (g .coords .now) (g .origin .now) (g .direction .now) (g .tol) (length (g .numbers .now))) (omega
+    (line-sound (cell (g .kind) (g .conn .now) (g .coords .now)) (through (g .origin .now) (g .direction .now)) (g .tol) (length (g .numbers .now))) (omega
     arith)
 
 same-length : tie.Need-same-length

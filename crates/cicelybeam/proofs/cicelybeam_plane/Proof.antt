@@ -1,6 +1,8 @@
 -- `cicelybeam_plane` meets its contract. Assumes nothing.
-use lib.ListN.{length}
-use Rattle.plane_cut.proofs.Claims.{sections-small}
+use Rattle.cell.specs.Read.{cell}
+use Rattle.stitch.specs.Entry.{buffers, lengths}
+use Rattle.cuts.specs.Cuts.{through}
+use Rattle.plane_cut.proofs.Claims.{plane-small}
 use Rattle.cicelybeam.proofs.Exports.{retold, told-small}
 use borrow.Author.Needs.{needs}
 use Rattle.cicelybeam.proofs.cicelybeam_plane.Statement.{statement}
@@ -11,11 +13,9 @@ section-cell-by-plane-requires c κs = search needs
 
 told-section-requires : tie.Need-told-section-requires
 told-section-requires c κs =
-    let g = c .before .before .before .before .before .before .before .before .before .before .before .before .before .before .before
-    .before .before .args in
+    let g = c .before .before .before .before .before .before .before .before .before .before .before .before .before .before .before .before .before .args in
     told-small (c .before .before .before .before .before .before .section-cell-by-plane .ensures)
-    (sections-small .0 (g .kind) (g .conn .now) (g .coords .now) (g .origin .now) (g .normal .now) (g .tol) (length (g .numbers .now))
-    (length (g .nodes .now)) (length (g .ends .now)))
+    (plane-small (cell (g .kind) (g .conn .now) (g .coords .now)) (through (g .origin .now) (g .normal .now)) (g .tol) (lengths (buffers (g .numbers .now) (g .nodes .now) (g .ends .now))))
 
 same-length : tie.Need-same-length
 same-length c = search needs

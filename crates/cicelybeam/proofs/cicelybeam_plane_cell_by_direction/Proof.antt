@@ -1,7 +1,9 @@
 -- `cicelybeam_plane_cell_by_direction` meets its contract. Assumes nothing.
 use native.Mathlib.Omega.{arith}
 use lib.ListN.{length}
-use Rattle.vector.specs.Vector.{normalAlong}
+use Rattle.cell.specs.Read.{cell}
+use Rattle.cuts.specs.Cuts.{through}
+use Rattle.cuts.specs.declared.Way.the-variants.{Direction}
 use Rattle.plane_cell.proofs.Claims.{plane-cell-sound}
 use Rattle.cicelybeam.proofs.Exports.{line-small, line-retold}
 use borrow.Author.Needs.{needs}
@@ -15,8 +17,8 @@ told-line-requires : tie.Need-told-line-requires
 told-line-requires c κs =
     let g = c .before .before .before .before .before .before .before .before .before .args in
     line-small (c .before .before .slice-line .ensures) 384
-    (plane-cell-sound normalAlong (g .kind) (g .conn .now) (g .coords .now) (g .origin .now) (g .direction .now) (g .tol) (length (g
-    .numbers .now))) (omega arith)
+    (plane-cell-sound Direction (cell (g .kind) (g .conn .now) (g .coords .now)) (through (g .origin .now) (g .direction .now)) (g .tol)
+    (length (g .numbers .now))) (omega arith)
 
 same-length : tie.Need-same-length
 same-length c = search needs

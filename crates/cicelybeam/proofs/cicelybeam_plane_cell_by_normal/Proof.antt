@@ -1,7 +1,9 @@
 -- `cicelybeam_plane_cell_by_normal` meets its contract. Assumes nothing.
 use native.Mathlib.Omega.{arith}
 use lib.ListN.{length}
-use Rattle.vector.specs.Vector.{unit}
+use Rattle.cell.specs.Read.{cell}
+use Rattle.cuts.specs.Cuts.{through}
+use Rattle.cuts.specs.declared.Way.the-variants.{Normal}
 use Rattle.plane_cell.proofs.Claims.{plane-cell-sound}
 use Rattle.cicelybeam.proofs.Exports.{line-small, line-retold}
 use borrow.Author.Needs.{needs}
@@ -15,7 +17,7 @@ told-line-requires : tie.Need-told-line-requires
 told-line-requires c κs =
     let g = c .before .before .before .before .before .before .before .before .before .args in
     line-small (c .before .before .slice-2d .ensures) 384
-    (plane-cell-sound unit (g .kind) (g .conn .now) (g .coords .now) (g .origin .now) (g .normal .now) (g .tol) (length (g .numbers .now)))
+    (plane-cell-sound Normal (cell (g .kind) (g .conn .now) (g .coords .now)) (through (g .origin .now) (g .normal .now)) (g .tol) (length (g .numbers .now)))
     (omega arith)
 
 same-length : tie.Need-same-length

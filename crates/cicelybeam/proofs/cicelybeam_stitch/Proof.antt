@@ -1,6 +1,6 @@
 -- `cicelybeam_stitch` meets its contract. Assumes nothing.
-use lib.ListN.{length}
-use Rattle.plane_cut.proofs.Claims.{sections-small}
+use Rattle.stitch.specs.Entry.{buffers, lengths}
+use Rattle.stitch.proofs.Entries.{stitch-small}
 use Rattle.cicelybeam.proofs.Exports.{retold, told-small}
 use borrow.Author.Needs.{needs}
 use Rattle.cicelybeam.proofs.cicelybeam_stitch.Statement.{statement}
@@ -13,7 +13,7 @@ told-section-requires : tie.Need-told-section-requires
 told-section-requires c κs =
     let g = c .before .before .before .before .before .before .before .before .before .before .before .before .before .before .args in
     told-small (c .before .before .before .before .before .before .stitch-alone .ensures)
-    (sections-small .1 (g .segments .now) (g .tol) (length (g .numbers .now)) (length (g .nodes .now)) (length (g .ends .now)))
+    (stitch-small (g .segments .now) (g .tol) (lengths (buffers (g .numbers .now) (g .nodes .now) (g .ends .now))))
 
 same-length : tie.Need-same-length
 same-length c = search needs

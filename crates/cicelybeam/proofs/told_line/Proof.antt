@@ -1,7 +1,7 @@
 -- `told_line` meets its contract. Assumes nothing.
 use mathlib.Core.Path.{ap, subst, sym}
 use Prim.Native.Nat.{_<_}
-use Rattle.cuts.specs.Code.{meaning}
+use Rattle.cuts.specs.Lines.{lineTold}
 use borrow.Author.Needs.{needs}
 use Rattle.cicelybeam.proofs.told_line.Statement.{statement}
 use Rattle.cicelybeam.proofs.told_line.Tie as tie
@@ -17,15 +17,15 @@ enum-known-answer-2 c = search needs
 
 narrow-requires : tie.Need-narrow-requires
 narrow-requires c κs =
-    subst (λ a. meaning a .segments < 4294967296) (c .before .answer2 .given .1) (c .before .before .before .pre)
+    subst (λ a. lineTold a .segments < 4294967296) (c .before .answer2 .given .1) (c .before .before .before .pre)
 
 returns : tie.Need-returns
 returns c =
-    ap meaning (sym (c .before .answer .given .1))
+    ap lineTold (sym (c .before .answer .given .1))
 
 returns-2 : tie.Need-returns-2
 returns-2 c =
-    rw (c .narrow .ensures) (ap meaning (sym (c .before .before .answer2 .given .1)))
+    rw (c .narrow .ensures) (ap lineTold (sym (c .before .before .answer2 .given .1)))
 
 pub told-line-spec : {M : Type 1} → statement M
 told-line-spec =

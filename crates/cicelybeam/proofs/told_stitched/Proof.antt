@@ -1,7 +1,7 @@
--- `counted` meets its contract. Assumes nothing.
+-- `told_stitched` meets its contract. Assumes nothing.
 use borrow.Author.Needs.{needs}
-use Rattle.cicelybeam.proofs.counted.Statement.{statement}
-use Rattle.cicelybeam.proofs.counted.Tie as tie
+use Rattle.cicelybeam.proofs.told_stitched.Statement.{statement}
+use Rattle.cicelybeam.proofs.told_stitched.Tie as tie
 
 narrow-requires : tie.Need-narrow-requires
 narrow-requires c κs = search needs
@@ -29,17 +29,15 @@ returns c =
     simp (
       c .before .before .before .before .before .before .narrow .ensures,
       c .before .before .before .before .before .narrow2 .ensures,
-      c
-          .before .before .before .before .narrow3 .ensures,
+      c .before .before .before .before .narrow3 .ensures,
       c .before .before .before .narrow4 .ensures,
       c .before .before .narrow5 .ensures,
-      c
-          .before .narrow6 .ensures,
+      c .before .narrow6 .ensures,
       c .narrow7 .ensures,
     )
 
-pub counted-spec : {M : Type 1} → statement M
-counted-spec =
+pub told-stitched-spec : {M : Type 1} → statement M
+told-stitched-spec =
     tie.close
     (tie.spec
     narrow-requires
