@@ -1,71 +1,21 @@
--- The segments of a face carried into the plane after others, and those of a cell gathered face by face, as the loops do it.
--- Assumes nothing.
+-- The segments of a cell gathered face by face, as the loop does it. Assumes nothing.
 use mathlib.Core.Path.{_≡_, refl, ap, sym, _∙_}
 use mathlib.Core.List.{List, [], _∷_, _++_, append-assoc, append-nil, map}
 use Prim.Native.Nat.{ℕ, _+_, _-_, _*_, _≤_, _<_}
 use native.Mathlib.Numerals.{add-one}
 use native.Mathlib.Omega.{arith}
 use lib.Ieee.{Float}
-use lib.ListN.{length, getD, take, drop, length-append, length-drop, length-map, drop-of-length-le, List·getD-map}
-use lib.Seq.{drop-cons, take-suc, take-all}
-use Rattle.vector.specs.Vector.{Vector, Frame, project}
-use Rattle.vector.specs.Rows.{noSeg, put, row, rows, seg, segs}
-use Rattle.vector.proofs.Rows.{drop-later, rows-length, segs-getD, segs-length, segs-put, segs-rest}
+use lib.ListN.{length, getD, take, drop, length-append, length-drop, length-map, drop-of-length-le}
+use lib.Seq.{drop-cons, take-all}
+use Rattle.vector.specs.Vector.{Frame}
+use Rattle.vector.specs.Rows.{rows, segs}
+use Rattle.vector.proofs.Rows.{drop-later, rows-length, segs-length}
 use Rattle.clip.specs.Clip.{Cut, planeSectionSegments}
 use Rattle.clip.specs.Cell.{atMost, cellSegments, faceSegments, facesFrom, projectSeg}
 use Rattle.clip.specs.Code.{Fit, Segments}
 use Rattle.clip.proofs.Bound.{section-bound}
 
--- i of the k segments of ps, w numbers an end, stand in zs after the m that xs has
-pub record Projecting (f : Frame) (w k : ℕ) (ps : List Float) (m : ℕ) (xs : List Float) (i : ℕ) (zs : List Float) : Type 0 where
-  pub listed : Segments 2 xs (segs 2 m xs ++ take i (map (projectSeg f) (segs w k ps))) (m + i) zs
-  pub same-length : length zs ≡ length xs
-  pub within : i ≤ k
-
-pub projecting-start : (f : Frame) (w k : ℕ) (ps : List Float) (m : ℕ) (xs : List Float) → Projecting f w k ps m xs 0 xs
-projecting-start f w k ps m xs =
-    let e : m + 0 ≡ m = omega arith in
-    record { listed = record { are = rw (e, append-nil (segs 2 m xs)); rest = refl }; same-length = refl; within = omega arith }
-
-pub projecting-step : {f : Frame} {w k : ℕ} {ps : List Float} {m : ℕ} {xs : List Float} {i : ℕ} {zs : List Float}
-    {p q a b : Vector} {ys us : List Float} → Projecting f w k ps m xs i zs → i < k → 2 * (2 * (m + k)) ≤ length xs
-    → p ≡ row w ps (2 * i) → a ≡ project f p → ys ≡ put 2 zs (2 * (m + i)) a
-    → q ≡ row w ps (2 * i + 1) → b ≡ project f q → us ≡ put 2 ys (2 * (m + i) + 1) b → length us ≡ length xs
-    → Projecting f w k ps m xs (i + 1) us
-projecting-step {f} {w} {k} {ps} {m} {xs} {i} {zs} {p} {q} {a} {b} v h room ep ea ey eq eb eu lu =
-    let all = map (projectSeg f) (segs w k ps) in
-    let n : length all ≡ k = length-map (segs w k ps) (projectSeg f) ∙ segs-length w k ps in
-    let g : getD all i (projectSeg f noSeg) ≡ seg a b =
-    List·getD-map (projectSeg f) (segs w k ps) i noSeg ∙ rw (segs-getD w k ps i h, ← ep, ← eq, ea, eb) in
-    let t : take (i + 1) all ≡ take i all ++ seg a b ∷ [] = rw add-one (take-suc all i (projectSeg f noSeg) (omega arith) ∙ rw g) in
-    let la : length a ≡ 2 = ap length ea in
-    let lb : length b ≡ 2 = ap length eb in
-    let r : 2 * (2 * (m + i + 1)) ≤ length zs = omega (arith, v .same-length) in
-    let j : m + (i + 1) ≡ m + i + 1 = omega arith in
-    record {
-      listed =
-          record {
-            are =
-                rw (j, eu, ey, t)
-                (segs-put 2 (m + i) zs a b la lb r ∙ rw (v .listed .are) (append-assoc (segs 2 m xs) (take i all) (seg a b ∷ [])));
-            rest =
-                rw (j, eu, ey)
-                (segs-rest 2 (m + i) zs a b la lb r
-                ∙ drop-later zs xs (2 * (2 * (m + i))) (2 * (2 * (m + i + 1))) (omega arith) (v .listed .rest));
-          };
-      same-length = lu;
-      within = omega arith;
-    }
-
-pub projecting-end : {f : Frame} {w k : ℕ} {ps : List Float} {m : ℕ} {xs : List Float} {i : ℕ} {zs : List Float}
-    → Projecting f w k ps m xs i zs → k ≤ i → Segments 2 xs (segs 2 m xs ++ map (projectSeg f) (segs w k ps)) (m + k) zs
-projecting-end {f} {w} {k} {ps} {m} {xs} {i} {zs} v h =
-    let all = map (projectSeg f) (segs w k ps) in
-    let n : length all ≡ k = length-map (segs w k ps) (projectSeg f) ∙ segs-length w k ps in
-    let e : i ≡ k = omega (arith, v .within) in
-    rw (take-all k all (omega arith)) at (rw e at (v .listed))
-
--- ---- the loop over the faces: i of them are passed, s corners and k segments; m corners there are in all, and room for p and q numbers a face
+-- i of the faces are passed, s corners and k segments; m corners there are in all, and room for p and q numbers a face
 pub record Gathering (c : Cut) (f : Frame) (w m p q : ℕ) (es : List ℕ) (ps xs : List Float) (i s k : ℕ) (zs : List Float) : Type 0 where
   pub total : cellSegments c f (facesFrom w 0 es ps) ≡ segs 2 k zs ++ cellSegments c f (facesFrom w s (drop i es) ps)
   pub rest : drop (2 * (2 * k)) zs ≡ drop (2 * (2 * k)) xs

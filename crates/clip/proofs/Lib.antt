@@ -6,5 +6,6 @@ pub mod KeptSide
 pub mod Clipping
 pub mod Listing
 pub mod Section
+pub mod Carrying
 pub mod Faces
 pub mod Worked

@@ -1,4 +1,5 @@
-// The section of a polygon by a plane in space (`space`) or by a line in the plane (`plane`): the same functions at two widths.
+// The segments of a cell, face by face, and what both widths share: the section of a polygon by a plane in space (`space`) or by a line
+// in the plane (`plane`).
 ghost use mathlib.Core.Path.{_≡_};
 ghost use mathlib.Core.Bool.{_&&_, _||_, cond};
 ghost use mathlib.Core.List.{_++_, map};
@@ -34,8 +35,8 @@ pub struct Clipped {
 }
 
 // A cell of m corners in all, which stand in coords face by face; ends are running totals. Its segments, in the
-// plane's own coordinates, written to out. The scratch `points` and `space` has room for
-// one face at a time, and what it holds afterwards is not said.
+// plane's own coordinates, written to out. The scratch `points` and `space` has room for one face at a time, and what
+// it holds afterwards is not said.
 pub fn cell_segments(
     coords: &[f64],
     ends: &[usize],

@@ -20,16 +20,16 @@ pub record Copying (out : List ℕ) (at : ℕ) (l : List ℕ) (n j : ℕ) (out�
   pub all : n ≡ length l
   pub room : at + n ≤ length out
 
-pub copy-start : (out : List ℕ) (at : ℕ) (l : List ℕ) (n : ℕ) → n ≡ length l → at + n ≤ length out → Copying out at l n 0 out
-copy-start out at l n e h = record { is = paste-zero out at l; few = omega arith; all = e; room = h }
+pub copy-start : {out : List ℕ} {at : ℕ} {l : List ℕ} {n : ℕ} → n ≡ length l → at + n ≤ length out → Copying out at l n 0 out
+copy-start {out} {at} {l} e h = record { is = paste-zero out at l; few = omega arith; all = e; room = h }
 
-module _ (out : List ℕ) (at : ℕ) (l : List ℕ) (n j : ℕ) (out′ : List ℕ) (g : Copying out at l n j out′) where
+module _ {out : List ℕ} {at : ℕ} {l : List ℕ} {n j : ℕ} {out′ : List ℕ} (g : Copying out at l n j out′) where
   pub copy-length : length out′ ≡ length out
   copy-length =
       let a = g .few in let b = g .all in let c = g .room in ap length (g .is) ∙ length-paste out at l j (omega arith) (omega arith)
 
-  pub copy-step : (v : ℕ) → j < n → v ≡ getD l j 0 → Copying out at l n (j + 1) (set out′ (at + j) v)
-  copy-step v h e =
+  pub copy-step : {v : ℕ} → j < n → v ≡ getD l j 0 → Copying out at l n (j + 1) (set out′ (at + j) v)
+  copy-step h e =
       let b = g .all in
       let c = g .room in
       record {

@@ -228,10 +228,10 @@ pub record Looping (n : ℕ) (zs : List Float) (xs ys : List ℕ) (rule : Rule) 
       Stitching (rows 2 n zs) rule (length xs) (walks (rows 2 n zs) (edgesOf xs ys)) (leftAt (rows 2 n zs) (edgesOf xs ys) k us) us tally nodes₀
       nodes ends₀ ends
 
-pub looping-start : (n : ℕ) (zs : List Float) (xs ys : List ℕ) (rule : Rule) (us : List Bool) (walked nodes ends : List ℕ)
+pub looping-start : {n : ℕ} {zs : List Float} {xs ys : List ℕ} {rule : Rule} {us : List Bool} {walked nodes ends : List ℕ}
     → length xs ≡ length ys → us ≡ replicate (length xs) false
     → Looping n zs xs ys rule us walked nodes ends us walked nodes ends (record { loops = 0; counts = unwalked (length xs) }) 0
-looping-start n zs xs ys rule us walked nodes ends s e =
+looping-start {n} {zs} {xs} {ys} {rule} {us} {nodes = nodes} {ends = ends} s e =
     let m = edges-length xs ys s in
     record {
       within = omega arith;
@@ -242,8 +242,8 @@ looping-start n zs xs ys rule us walked nodes ends s e =
       so-far = stitching-start (rows 2 n zs) (edgesOf xs ys) rule (length xs) us nodes ends (rw m e);
     }
 
-module _ (n : ℕ) (zs : List Float) (xs ys : List ℕ) (rule : Rule) (us₀ : List Bool) (walked₀ nodes₀ ends₀ : List ℕ)
-    (us : List Bool) (walked nodes ends : List ℕ) (tally : Tally) (k : ℕ)
+module _ {n : ℕ} {zs : List Float} {xs ys : List ℕ} {rule : Rule} {us₀ : List Bool} {walked₀ nodes₀ ends₀ : List ℕ}
+    {us : List Bool} {walked nodes ends : List ℕ} {tally : Tally} {k : ℕ}
     (g : Looping n zs xs ys rule us₀ walked₀ nodes₀ ends₀ us walked nodes ends tally k)
     (marked₀ : Marked n zs xs ys us₀) (spare₀ : Spare (edgesOf xs ys) walked₀ nodes₀ ends₀) where
   pub looping-marked : Marked n zs xs ys us
@@ -263,11 +263,11 @@ module _ (n : ℕ) (zs : List Float) (xs ys : List ℕ) (rule : Rule) (us₀ : L
         ends-room = omega (arith, spare₀ .ends-room);
       }
 
-  pub looping-step : k < length xs → (us′ : List Bool) (walked′ nodes′ ends′ : List ℕ) (r : Tally)
+  pub looping-step : k < length xs → {us′ : List Bool} {walked′ nodes′ ends′ : List ℕ} {r : Tally}
       → length us′ ≡ length us → length walked′ ≡ length walked → length nodes′ ≡ length nodes → length ends′ ≡ length ends
       → Turn (rows 2 n zs) (edgesOf xs ys) rule k (getD us k true) us tally nodes ends us′ r nodes′ ends′
       → Looping n zs xs ys rule us₀ walked₀ nodes₀ ends₀ us′ walked′ nodes′ ends′ r (k + 1)
-  looping-step h us′ walked′ nodes′ ends′ r lu lw ln le u =
+  looping-step h {us′} {nodes′ = nodes′} {ends′ = ends′} {r = r} lu lw ln le u =
       let m = edges-length xs ys (marked₀ .ends .same) in
       record {
         within = omega arith;
@@ -279,7 +279,7 @@ module _ (n : ℕ) (zs : List Float) (xs ys : List ℕ) (rule : Rule) (us₀ : L
             stitching-step (rows 2 n zs) (edgesOf xs ys) rule (length xs) (walks (rows 2 n zs) (edgesOf xs ys)) k us tally nodes₀ nodes ends₀ ends
             (g .so-far) (omega arith) us′ r nodes′ ends′ (getD us k true) refl
             (λ f c.
-            let o = loop-fits n zs xs ys us k tally walked nodes ends looping-marked looping-spare (g .so-far .counting) h f c in
+            let o = loop-fits k looping-marked looping-spare (g .so-far .counting) h f c in
             record { for-end = (let q = g .ends-length′ in omega (arith, o .for-end)); same = o .same; three = o .three })
             u;
       }

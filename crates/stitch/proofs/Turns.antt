@@ -74,7 +74,7 @@ pub record Fit (w : Walk) (tally : Tally) (ends : List ℕ) : Type 0 where
   pub same : length (w .nodes) ≡ length (w .edges)
   pub three : 3 ≤ length (w .edges)
 
-module _ (n : ℕ) (zs : List Float) (xs ys : List ℕ) (us : List Bool) (k : ℕ) (tally : Tally) (walked nodes ends : List ℕ)
+module _ {n : ℕ} {zs : List Float} {xs ys : List ℕ} {us : List Bool} {tally : Tally} {walked nodes ends : List ℕ} (k : ℕ)
     (marked : Marked n zs xs ys us) (spare : Spare (edgesOf xs ys) walked nodes ends) (counting : Counting tally us)
     (inside : k < length xs) (free : getD us k true ≡ false) where
   abbrev w : Walk
@@ -121,7 +121,7 @@ module _ (n : ℕ) (zs : List Float) (xs ys : List ℕ) (us : List Bool) (k : �
         three = omega (arith, sound-three (edgesOf xs ys) (spare .simple) (spare .distinct) w sound c);
       }
 
-  module _ (nodes-walked edges-walked : ℕ) (closed : Bool) (us′ : List Bool) (buffer : List ℕ)
+  module _ {nodes-walked edges-walked : ℕ} {closed : Bool} {us′ : List Bool} {buffer : List ℕ}
       (went : Went w nodes-walked edges-walked closed us′ buffer) where
     pub walked-fits : nodes-walked ≤ length buffer
     walked-fits = let a = ap length (went .nodes-are) in let b = length-take nodes-walked buffer in let c = went .node-count in omega arith

@@ -144,7 +144,7 @@ going-start n zs xs ys us ns k r h l f =
       along = along-start (rows 2 n zs) (edgesOf xs ys) k (getD xs k 0) (getD ys k 0) (set us k true) ns (omega arith);
     }
 
-module _ (n : ℕ) (zs : List Float) (xs ys : List ℕ) (s : ℕ) (w : Walk) (room : ℕ) (us : List Bool) (ns : List ℕ) (m p c : ℕ)
+module _ {n : ℕ} {zs : List Float} {xs ys : List ℕ} {s : ℕ} {w : Walk} {room : ℕ} {us : List Bool} {ns : List ℕ} {m p c : ℕ}
     (g : Going n zs xs ys s w room us ns m p c) (ends : Ends n zs xs ys) (fits : length xs < room) where
   size : m ≤ length (edgesOf xs ys)
   size = let l = edges-length xs ys (ends .same) in let q = g .left in omega arith
@@ -155,7 +155,7 @@ module _ (n : ℕ) (zs : List Float) (xs ys : List ℕ) (s : ℕ) (w : Walk) (ro
   pub marked : Marked n zs xs ys us
   marked = record { ends = ends; marks = g .marks }
 
-  module _ (k : ℕ) (e : nextEdge (rows 2 n zs) (edgesOf xs ys) us p c ≡ next.Edge k) where
+  module _ {k : ℕ} (e : nextEdge (rows 2 n zs) (edgesOf xs ys) us p c ≡ next.Edge k) where
     free : Free c (edgesOf xs ys) us k
     free = next-free (rows 2 n zs) (edgesOf xs ys) us p c k e
 
@@ -165,9 +165,9 @@ module _ (n : ℕ) (zs : List Float) (xs ys : List ℕ) (s : ℕ) (w : Walk) (ro
     pub fewer : unused (set us k true) < unused us
     fewer = let a = unused-set us k (free .free) in omega arith
 
-    pub going-step : (c′ : ℕ) → (c ≡ s → ⊥) → c′ ≡ cond (eqb (getD xs k 0) c) (getD ys k 0) (getD xs k 0)
+    pub going-step : {c′ : ℕ} → (c ≡ s → ⊥) → c′ ≡ cond (eqb (getD xs k 0) c) (getD ys k 0) (getD xs k 0)
         → Going n zs xs ys s w room (set us k true) (set ns m c) (m + 1) c c′
-    going-step c′ d v =
+    going-step {c′} d v =
         let i = ends .within k free-in in
         record {
           marks = length-set us k true ∙ g .marks;

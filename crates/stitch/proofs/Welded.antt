@@ -80,7 +80,7 @@ pub record Walkable (n m : ℕ) (zs : List Float) (xs ys : List ℕ) (us : List 
   pub spare : Spare (edgesOf (take m xs) (take m ys)) walked nodes ends
   pub fresh : take m us ≡ replicate (length (take m xs)) false
 
-module _ (rule : Rule) (ss : List Float) (s : ℕ) (zs₀ : List Float) (n m : ℕ) (zs : List Float) (xs ys nodes ends : List ℕ)
+module _ (rule : Rule) {ss : List Float} {s : ℕ} {zs₀ : List Float} {n m : ℕ} {zs : List Float} {xs ys nodes ends : List ℕ}
     (w : Welds (rule .tol2) ss s zs₀ n m zs xs ys) (lent : Stitchable s ss zs₀ nodes ends) (kept : length zs ≡ length zs₀)
     (same : length xs ≡ length ys) (room : s ≤ length xs) where
   few : m ≤ 384

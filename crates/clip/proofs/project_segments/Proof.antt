@@ -1,24 +1,26 @@
 -- `clip::project_segments` meets its contract. Assumes nothing.
 -- The invariant: the segments passed stand after those that were there.
-use mathlib.Core.Path.{_∙_}
+use mathlib.Core.Path.{refl, _∙_}
 use Prim.Native.Nat.{_-_}
 use native.Mathlib.Omega.{arith}
 use borrow.Author.Needs.{needs}
+use Rattle.vector.specs.Vector.{project}
 use Rattle.vector.specs.View.{frameOf}
-use Rattle.clip.proofs.Faces.{Projecting, projecting-end, projecting-start, projecting-step}
+use Rattle.clip.specs.Cell.{projectSeg}
+use Rattle.clip.proofs.Carrying.{Carrying, by-ends, carrying-end, carrying-start, carrying-step}
 use Rattle.clip.proofs.project_segments.Statement.{statement}
 use Rattle.clip.proofs.project_segments.Tie as tie
 
 abbrev Inv-loop : tie.InvT-loop
-Inv-loop space k plane out₀ from i₀ out i = Projecting (frameOf plane) 3 k space from out₀ i out
+Inv-loop space k plane out₀ from i₀ out i = Carrying (projectSeg (frameOf plane)) 3 2 k space from out₀ i out
 
 abbrev μ-loop : tie.MeasureT-loop
 μ-loop space k plane out₀ from i₀ out i = k - i
 
 loop-holds : tie.Need-loop-holds Inv-loop μ-loop
 loop-holds c =
-    let g = c .before .before .args in projecting-start (frameOf (g .plane)) 3 (g .k) (g .space .now) (g .from)
-    (g .out .now)
+    let g = c .before .before .args in
+    carrying-start (projectSeg (frameOf (g .plane))) 3 2 (g .k) (g .space .now) (g .from) (g .out .now)
 
 add-j : tie.Need-add-j Inv-loop μ-loop
 add-j c = omega arith
@@ -68,13 +70,9 @@ loop-again c =
     c .before .before .before .before .before .before .before .before .before .before .before .before .before .loop .inv in
     let first = c .before .before .before .before .before .before .before .before .put2 in
     let second = c .before .before .put22 in
-    projecting-step v
-    (c .before .before .before .before .before .before .before .before .before .before .before .before .loop-test .taken)
-    (omega (arith, c .before .before .before .before .before .before .before .before .before .before .before .before .before .before .before .before .pre))
-    (c .before .before .before .before .before .before .before .before .before .before .point3 .ensures)
-    (c .before .before .before .before .before .before .before .before .before .project .ensures) (first .ensures)
-    (c .before .before .before .before .point32 .ensures) (c .before .before .before .project2 .ensures) (second .ensures)
-    (second .kept .0 ∙ first .kept .0 ∙ v .same-length)
+    carrying-step v (c .before .before .before .before .before .before .before .before .before .before .before .before .loop-test .taken) (omega (arith, c .before .before .before .before .before .before .before .before .before .before .before .before .before .before .before .before .pre))
+    (by-ends (project (frameOf (c .before .before .before .before .before .before .before .before .before .before .before .before .before .before .before .before .args .plane))) (c .before .before .before .before .before .before .before .before .before .before .point3 .ensures) (c .before .before .before .before .before .before .before .before .before .project .ensures) (c .before .before .before .before .point32 .ensures)
+    (c .before .before .before .project2 .ensures)) refl refl (first .ensures) (second .ensures) (second .kept .0 ∙ first .kept .0 ∙ v .same-length)
 
 add-result : tie.Need-add-result Inv-loop μ-loop
 add-result c = omega arith
@@ -83,7 +81,7 @@ same-length : tie.Need-same-length Inv-loop μ-loop
 same-length c = c .before .loop .inv .same-length
 
 returns : tie.Need-returns Inv-loop μ-loop
-returns c = projecting-end (c .before .loop .inv) (c .loop-test .left)
+returns c = carrying-end (c .before .loop .inv) (c .loop-test .left)
 
 pub project-segments-spec : {M : Type 1} → statement M
 project-segments-spec =

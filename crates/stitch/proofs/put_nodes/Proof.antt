@@ -14,7 +14,7 @@ abbrev μ-loop : tie.MeasureT-loop
 μ-loop out₀ at nodes j₀ out j = length nodes - j
 
 loop-holds : tie.Need-loop-holds Inv-loop μ-loop
-loop-holds c = let g = c .args in copy-start (g .out .now) (g .at) (g .nodes .now) (length (g .nodes .now)) refl (c .pre)
+loop-holds c = copy-start refl (c .pre)
 
 mul-out : tie.Need-mul-out Inv-loop μ-loop
 mul-out c = omega arith
@@ -30,9 +30,8 @@ mul-out-2 c = omega arith
 
 slice-write-out : tie.Need-slice-write-out Inv-loop μ-loop
 slice-write-out c =
-    let g = c .before .before .before .args in
     let l = c .before .before .loop in
-    omega (arith, copy-length (g .out .now) (g .at) (g .nodes .now) (length (g .nodes .now)) (l .j) (l .out) (l .inv))
+    omega (arith, copy-length (l .inv))
 
 add-j : tie.Need-add-j Inv-loop μ-loop
 add-j c = omega arith
@@ -42,21 +41,18 @@ loop-less c = omega arith
 
 loop-again : tie.Need-loop-again Inv-loop μ-loop
 loop-again c =
-    let g = c .before .before .before .args in
     let l = c .before .before .loop in
-    copy-step (g .out .now) (g .at) (g .nodes .now) (length (g .nodes .now)) (l .j) (l .out) (l .inv) _ (c .before .loop-test .taken) refl
+    copy-step (l .inv) (c .before .loop-test .taken) refl
 
 same-length : tie.Need-same-length Inv-loop μ-loop
 same-length c =
-    let g = c .before .before .args in
     let l = c .before .loop in
-    copy-length (g .out .now) (g .at) (g .nodes .now) (length (g .nodes .now)) (l .j) (l .out) (l .inv)
+    copy-length (l .inv)
 
 returns : tie.Need-returns Inv-loop μ-loop
 returns c =
-    let g = c .before .before .args in
     let l = c .before .loop in
-    copy-end (g .out .now) (g .at) (g .nodes .now) (length (g .nodes .now)) (l .j) (l .out) (l .inv) (c .loop-test .left)
+    copy-end (l .inv) (c .loop-test .left)
 
 pub put-nodes-spec : {M : Type 1} → statement M
 put-nodes-spec =

@@ -17,7 +17,7 @@ abbrev μ-loop : tie.MeasureT-loop
 loop-holds : tie.Need-loop-holds Inv-loop μ-loop
 loop-holds c =
     let g = c .args in
-    copy-start (g .out .now) (g .at) (reverse (g .nodes .now)) (length (g .nodes .now)) (sym (length-reverse (g .nodes .now))) (c .pre)
+    copy-start (sym (length-reverse (g .nodes .now))) (c .pre)
 
 sub-out : tie.Need-sub-out Inv-loop μ-loop
 sub-out c = omega arith
@@ -39,9 +39,8 @@ mul-out-2 c = omega arith
 
 slice-write-out : tie.Need-slice-write-out Inv-loop μ-loop
 slice-write-out c =
-    let g = c .before .before .before .args in
     let l = c .before .before .loop in
-    omega (arith, copy-length (g .out .now) (g .at) (reverse (g .nodes .now)) (length (g .nodes .now)) (l .j) (l .out) (l .inv))
+    omega (arith, copy-length (l .inv))
 
 add-j : tie.Need-add-j Inv-loop μ-loop
 add-j c = omega arith
@@ -53,21 +52,18 @@ loop-again : tie.Need-loop-again Inv-loop μ-loop
 loop-again c =
     let g = c .before .before .before .args in
     let l = c .before .before .loop in
-    copy-step (g .out .now) (g .at) (reverse (g .nodes .now)) (length (g .nodes .now)) (l .j) (l .out) (l .inv) _
-    (c .before .loop-test .taken)
+    copy-step (l .inv) (c .before .loop-test .taken)
     (sym (getD-reverse (g .nodes .now) (l .j) (c .before .loop-test .taken)))
 
 same-length : tie.Need-same-length Inv-loop μ-loop
 same-length c =
-    let g = c .before .before .args in
     let l = c .before .loop in
-    copy-length (g .out .now) (g .at) (reverse (g .nodes .now)) (length (g .nodes .now)) (l .j) (l .out) (l .inv)
+    copy-length (l .inv)
 
 returns : tie.Need-returns Inv-loop μ-loop
 returns c =
-    let g = c .before .before .args in
     let l = c .before .loop in
-    copy-end (g .out .now) (g .at) (reverse (g .nodes .now)) (length (g .nodes .now)) (l .j) (l .out) (l .inv) (c .loop-test .left)
+    copy-end (l .inv) (c .loop-test .left)
 
 pub put-reversed-spec : {M : Type 1} → statement M
 put-reversed-spec =

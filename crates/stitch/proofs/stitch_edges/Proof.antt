@@ -29,23 +29,15 @@ last-edges-requires c κs =
 loop-holds : tie.Need-loop-holds Inv-loop μ-loop
 loop-holds c =
     let s = c .before .before .before .before .before .before .before .before .before .before .before .before in
-    let g = s .args in
-    looping-start (g .n) (g .points .now) (g .smaller .now) (g .larger .now) (g .rule) (g .used .now) (g .walked .now) (g .nodes .now)
-    (g .ends .now)
-    (s .pre .0 .ends .same) (s .pre .2)
+    looping-start (s .pre .0 .ends .same) (s .pre .2)
 
 stitch-from-requires : tie.Need-stitch-from-requires Inv-loop μ-loop
 stitch-from-requires c κs =
     let s = c .before .before .before .before .before .before .before .before .before .before .before .before .before .before .before
     .before .before .before .before in
-    let g = s .args in
     let l = c .before .before .before .before .before .before .loop in (
-      looping-marked (g .n) (g .points .now) (g .smaller .now) (g .larger .now) (g .rule) (g .used .now) (g .walked .now) (g .nodes .now)
-          (g .ends .now)
-          (l .used) (l .walked) (l .nodes) (l .ends) (l .tally) (l .k) (l .inv) (s .pre .0) (s .pre .1),
-      looping-spare (g .n) (g .points .now) (g .smaller .now) (g .larger .now) (g .rule) (g .used .now) (g .walked .now) (g .nodes .now)
-          (g .ends .now)
-          (l .used) (l .walked) (l .nodes) (l .ends) (l .tally) (l .k) (l .inv) (s .pre .0) (s .pre .1),
+      looping-marked (l .inv) (s .pre .0) (s .pre .1),
+      looping-spare (l .inv) (s .pre .0) (s .pre .1),
       c .before .before .before .before .before .loop-test .taken,
       l .inv .so-far .counting,
       omega (arith, s .pre .3, c .before .before .before .before .before .before .before .before .before .last-edges .kept .1 .1 .0),
@@ -75,15 +67,11 @@ loop-again : tie.Need-loop-again Inv-loop μ-loop
 loop-again c =
     let s = c .before .before .before .before .before .before .before .before .before .before .before .before .before .before .before
     .before .before .before .before .before .before .before .before .before .before .before .before .before in
-    let g = s .args in
     let l =
     c .before .before .before .before .before .before .before .before .before .before .before .before .before .before .before .loop in
     let f = c .before .before .before .before .before .before .before .before .stitch-from in
-    looping-step (g .n) (g .points .now) (g .smaller .now) (g .larger .now) (g .rule) (g .used .now) (g .walked .now) (g .nodes .now)
-    (g .ends .now)
-    (l .used) (l .walked) (l .nodes) (l .ends) (l .tally) (l .k) (l .inv) (s .pre .0) (s .pre .1)
+    looping-step (l .inv) (s .pre .0) (s .pre .1)
     (c .before .before .before .before .before .before .before .before .before .before .before .before .before .before .loop-test .taken)
-    (f .last .1 .1 .1 .1 .0) (f .last .1 .1 .1 .1 .1 .0) (f .last .1 .1 .1 .1 .1 .1 .1 .0) (f .last .1 .1 .1 .1 .1 .1 .1 .1 .0) (f .result)
     (f .kept .1 .1 .1 .1 .0) (f .kept .1 .1 .1 .1 .1 .0) (f .kept .1 .1 .1 .1 .1 .1 .1 .0) (f .kept .1 .1 .1 .1 .1 .1 .1 .1 .0) (f .ensures)
 
 same-length : tie.Need-same-length Inv-loop μ-loop
@@ -104,11 +92,8 @@ same-length-5 c = search needs
 returns : tie.Need-returns Inv-loop μ-loop
 returns c =
     let s = c .before .before .before .before .before .before .before .before .before .before .before .before .before .before in
-    let g = s .args in
     let l = c .before .loop in
-    looping-end (g .n) (g .points .now) (g .smaller .now) (g .larger .now) (g .rule) (g .used .now) (g .walked .now) (g .nodes .now)
-    (g .ends .now)
-    (l .used) (l .walked) (l .nodes) (l .ends) (l .tally) (l .k) (l .inv) (s .pre .0) (s .pre .1) (c .loop-test .left)
+    looping-end (l .inv) (s .pre .0) (s .pre .1) (c .loop-test .left)
 
 pub stitch-edges-spec : {M : Type 1} → statement M
 stitch-edges-spec =

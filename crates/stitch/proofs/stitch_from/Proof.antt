@@ -1,8 +1,7 @@
 -- `stitch::stitch_from` meets its contract. Assumes nothing.
 use mathlib.Core.Path.{_≡_, sym, _∙_}
 use mathlib.Core.Bool.{true, false}
-use mathlib.Core.List.{List}
-use Prim.Native.Nat.{ℕ, _<_}
+use Prim.Native.Nat.{_<_}
 use native.Mathlib.Omega.{arith}
 use lib.ListN.{getD, length}
 use Rattle.vector.specs.Rows.{rows}
@@ -23,12 +22,9 @@ slice-read-if1 c = search needs
 walked-room : (s : tie.Start) → length (s .args .smaller .now) < length (s .args .walked .now)
 walked-room s = omega (arith, edges-length (s .args .smaller .now) (s .args .larger .now) (s .pre .0 .ends .same), s .pre .1 .walked-room)
 
--- after the walk: the entry, the nodes, and that edge k was free
+-- after the walk: the entry, and that edge k was free
 abbrev entry : tie.After-walk → tie.Start
 entry c = c .before .before .before .before .before .before .before .before .before .before .before .before .before
-
-abbrev buffer : tie.After-walk → List ℕ
-buffer c = c .walk .last .1 .1 .1 .1 .1 .0
 
 free : (c : tie.After-walk) → getD (entry c .args .used .now) (entry c .args .k) true ≡ false
 free c = sym (mark (entry c)) ∙ c .before .before .before .if1 .left
@@ -57,34 +53,19 @@ slice-reshare-prefix-finish : tie.Need-slice-reshare-prefix-finish
 slice-reshare-prefix-finish c =
     let a = c .before .before .before .before in
     let s = entry a in
-    let g = s .args in
-    walked-fits (g .n) (g .points .now) (g .smaller .now) (g .larger .now) (g .used .now) (g .k) (g .tally) (g .walked .now) (g .nodes .now)
-    (g .ends .now)
-    (s .pre .0) (s .pre .1) (s .pre .3) (s .pre .2) (free a) (a .walk .result .nodes) (a .walk .result .edges) (a .walk .result .closed) _
-    (buffer a)
-    (a .walk .ensures)
+    walked-fits (s .args .k) (s .pre .0) (s .pre .1) (s .pre .3) (s .pre .2) (free a) (a .walk .ensures)
 
 slice-aggregate-finish : tie.Need-slice-aggregate-finish
 slice-aggregate-finish c =
     let a = c .before .before .before .before .before in
     let s = entry a in
-    let g = s .args in
-    walked-count (g .n) (g .points .now) (g .smaller .now) (g .larger .now) (g .used .now) (g .k) (g .tally) (g .walked .now) (g .nodes .now)
-    (g .ends .now)
-    (s .pre .0) (s .pre .1) (s .pre .3) (s .pre .2) (free a) (a .walk .result .nodes) (a .walk .result .edges) (a .walk .result .closed) _
-    (buffer a)
-    (a .walk .ensures)
+    walked-count (s .args .k) (s .pre .0) (s .pre .1) (s .pre .3) (s .pre .2) (free a) (a .walk .ensures)
 
 finish-requires : tie.Need-finish-requires
 finish-requires c κs =
     let a = c .before .before .before .before .before .before .before in
     let s = entry a in
-    let g = s .args in
-    finishing (g .n) (g .points .now) (g .smaller .now) (g .larger .now) (g .used .now) (g .k) (g .tally) (g .walked .now) (g .nodes .now)
-    (g .ends .now)
-    (s .pre .0) (s .pre .1) (s .pre .3) (s .pre .2) (free a) (a .walk .result .nodes) (a .walk .result .edges) (a .walk .result .closed) _
-    (buffer a)
-    (a .walk .ensures)
+    finishing (s .args .k) (s .pre .0) (s .pre .1) (s .pre .3) (s .pre .2) (free a) (a .walk .ensures)
 
 same-length : tie.Need-same-length
 same-length c = c .before .before .before .before .before .before .before .before .before .before .before .before .walk .kept .1 .1 .1 .1 .0
@@ -103,11 +84,7 @@ returns-2 c =
     let a = c .before .before .before .before .before .before .before .before .before .before .before .before in
     let s = entry a in
     let g = s .args in
-    turn-free (g .n) (g .points .now) (g .smaller .now) (g .larger .now) (g .used .now) (g .k) (g .tally) (g .walked .now) (g .nodes .now)
-    (g .ends .now)
-    (s .pre .0) (s .pre .1) (s .pre .3) (s .pre .2) (free a) (a .walk .result .nodes) (a .walk .result .edges) (a .walk .result .closed) _
-    (buffer a)
-    (a .walk .ensures) (g .rule) (c .before .before .before .before .finish .result) _ _
+    turn-free (s .args .k) (s .pre .0) (s .pre .1) (s .pre .3) (s .pre .2) (free a) (a .walk .ensures) (g .rule) (c .before .before .before .before .finish .result) _ _
     (c .before .before .before .before .finish .ensures)
 
 pub stitch-from-spec : {M : Type 1} → statement M

@@ -20,8 +20,7 @@ fit : (a : tie.After-weld)
 fit a =
     let g = entry a .args in
     let f = a .weld in
-    walkable (g .rule) (g .segments .now) (g .s) (g .points .now) (f .result .points) (f .result .edges) (f .last .1 .1 .0)
-    (f .last .1 .1 .1 .0) (f .last .1 .1 .1 .1 .0) (g .nodes .now) (g .ends .now) (f .ensures) (entry a .pre .0) (f .kept .1 .1 .0)
+    walkable (g .rule) (f .ensures) (entry a .pre .0) (f .kept .1 .1 .0)
     (f .kept .1 .1 .1 .0 ∙ entry a .pre .1 .same ∙ sym (f .kept .1 .1 .1 .1 .0))
     (omega (arith, f .kept .1 .1 .1 .0, entry a .pre .1 .for-edges)) (g .used .now) (g .walked .now) (entry a .pre .1 .unmarked) (entry a .pre .1 .for-walk)
 
@@ -87,8 +86,7 @@ returns c =
     let a = (c .before .before .before .before .before .before .before .before .before .before .before .before .before .before .before .before .before .before .before .before .before .before .before .before .before .before) in
     let g = entry a .args in
     let f = a .weld in
-    stitches (g .rule) (g .segments .now) (g .s) (g .points .now) (f .result .points) (f .result .edges) (f .last .1 .1 .0)
-    (f .last .1 .1 .1 .0) (f .last .1 .1 .1 .1 .0) (g .nodes .now) (g .ends .now) (f .ensures) (entry a .pre .0) (f .kept .1 .1 .0)
+    stitches (g .rule) (f .ensures) (entry a .pre .0) (f .kept .1 .1 .0)
     (f .kept .1 .1 .1 .0 ∙ entry a .pre .1 .same ∙ sym (f .kept .1 .1 .1 .1 .0))
     (omega (arith, f .kept .1 .1 .1 .0, entry a .pre .1 .for-edges)) (c .before .before .before .before .before .before .before .before .before .before .before .stitch-edges .result) _ _ (c .before .before .before .before .before .before .before .before .before .before .before .stitch-edges .ensures)
 

@@ -64,10 +64,8 @@ chosen c = sym (c .before .before .before .select-next-edge .ensures) ∙ c .bef
 inside : (c : tie.After-known-told Inv-loop μ-loop) → taken c < length (entry (turn c) .args .smaller .now)
 inside c =
     let s = entry (turn c) in
-    let g = s .args in
     let l = turn c .loop in
-    free-in (g .n) (g .points .now) (g .smaller .now) (g .larger .now) _ (the-walk s) (room s) (l .used) (l .nodes) (l .count) (l .previous)
-    (l .current) (l .inv) (s .pre .0 .ends) (fits s) (taken c) (chosen c)
+    free-in (l .inv) (s .pre .0 .ends) (fits s) (chosen c)
 
 -- no edge is left to choose
 none-left : (c : tie.After-enum-told Inv-loop μ-loop) → choice (c .before .before .before .before .before .before) ≡ next.Nothing
@@ -101,19 +99,14 @@ loop-holds c =
 
 mul-nodes : tie.Need-mul-nodes Inv-loop μ-loop
 mul-nodes c =
-    let s = c .before .before .before .before .before .before .before .before .before .before in
-    let g = s .args in
     let l = c .before .loop in
     omega (arith, l .inv .left)
 
 slice-write-nodes-2 : tie.Need-slice-write-nodes-2 Inv-loop μ-loop
 slice-write-nodes-2 c =
     let s = c .before .before .before .before .before .before .before .before .before .before in
-    let g = s .args in
     let l = c .before .loop in
-    in-buffer (g .n) (g .points .now) (g .smaller .now) (g .larger .now) _ (the-walk s) (room s) (l .used) (l .nodes) (l .count)
-    (l .previous)
-    (l .current) (l .inv) (s .pre .0 .ends) (fits s)
+    in-buffer (l .inv) (s .pre .0 .ends) (fits s)
 
 end-at-requires : tie.Need-end-at-requires Inv-loop μ-loop
 end-at-requires c κs =
@@ -137,10 +130,8 @@ end-in c =
 select-next-edge-requires : tie.Need-select-next-edge-requires Inv-loop μ-loop
 select-next-edge-requires c κs =
     let s = c .before .before .before .before .before .before .before .before .before .before .before .before in
-    let g = s .args in
     let l = c .before .before .before .loop in (
-      marked (g .n) (g .points .now) (g .smaller .now) (g .larger .now) _ (the-walk s) (room s) (l .used) (l .nodes) (l .count) (l .previous)
-          (l .current) (l .inv) (s .pre .0 .ends) (fits s),
+      marked (l .inv) (s .pre .0 .ends) (fits s),
       l .inv .p-in,
       l .inv .c-in,
       end-in c,
@@ -174,9 +165,7 @@ returns c =
     let g = s .args in
     let l = c .before .before .before .before .before .before .loop in
     went-as (walk-is (rows 2 (g .n) (g .points .now)) (g .smaller .now) (g .larger .now) (g .start-edge) (g .used .now) (s .pre .0 .ends .same))
-    (going-open (g .n) (g .points .now) (g .smaller .now) (g .larger .now) _ (the-walk s) (room s) (l .used) (l .nodes) (l .count)
-    (l .previous)
-    (l .current) (l .inv) (s .pre .0 .ends) (fits s)
+    (going-open (l .inv) (s .pre .0 .ends) (fits s)
     (c .before .before .before .before .before .loop-test .taken)
     (none-left c))
 
@@ -218,23 +207,18 @@ loop-less c =
     let s =
     c .before .before .before .before .before .before .before .before .before .before .before .before .before .before .before .before
     .before .before .before in
-    let g = s .args in
     let l = c .before .before .before .before .before .before .before .before .before .before .loop in
-    fewer (g .n) (g .points .now) (g .smaller .now) (g .larger .now) _ (the-walk s) (room s) (l .used) (l .nodes) (l .count) (l .previous)
-    (l .current) (l .inv) (s .pre .0 .ends) (fits s)
-    (taken (c .before .before .before)) (chosen (c .before .before .before))
+    fewer (l .inv) (s .pre .0 .ends) (fits s)
+    (chosen (c .before .before .before))
 
 loop-again : tie.Need-loop-again Inv-loop μ-loop
 loop-again c =
     let s =
     c .before .before .before .before .before .before .before .before .before .before .before .before .before .before .before .before
     .before .before .before in
-    let g = s .args in
     let l = c .before .before .before .before .before .before .before .before .before .before .loop in
-    going-step (g .n) (g .points .now) (g .smaller .now) (g .larger .now) _ (the-walk s) (room s) (l .used) (l .nodes) (l .count)
-    (l .previous)
-    (l .current) (l .inv) (s .pre .0 .ends) (fits s)
-    (taken (c .before .before .before)) (chosen (c .before .before .before)) (c .other-end .result)
+    going-step (l .inv) (s .pre .0 .ends) (fits s)
+    (chosen (c .before .before .before))
     (c .before .before .before .before .before .before .before .before .before .loop-test .taken) (c .other-end .ensures)
 
 same-length-3 : tie.Need-same-length-3 Inv-loop μ-loop
@@ -251,9 +235,7 @@ returns-2 c =
     let g = s .args in
     let l = c .before .loop in
     went-as (walk-is (rows 2 (g .n) (g .points .now)) (g .smaller .now) (g .larger .now) (g .start-edge) (g .used .now) (s .pre .0 .ends .same))
-    (going-closed (g .n) (g .points .now) (g .smaller .now) (g .larger .now) _ (the-walk s) (room s) (l .used) (l .nodes) (l .count)
-    (l .previous)
-    (l .current) (l .inv) (s .pre .0 .ends) (fits s)
+    (going-closed (l .inv) (s .pre .0 .ends) (fits s)
     (c .loop-test .left))
 
 pub walk-spec : {M : Type 1} → statement M
