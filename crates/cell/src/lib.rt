@@ -49,7 +49,13 @@ pub fn test_space_cell(t: u8, conn: &[u64], xs: &[f64]) -> Reading
 
 // The corners' coordinates of an accepted cell in space, written over the start of `out` face by face, and where each
 // face ends among the corners, written over the start of `face_ends`.
-pub fn copy_space_cell(t: u8, conn: &[u64], xs: &[f64], out: &mut [f64], face_ends: &mut [usize]) -> Kept
+pub fn copy_space_cell(
+    t: u8,
+    conn: &[u64],
+    xs: &[f64],
+    out: &mut [f64],
+    face_ends: &mut [usize],
+) -> Kept
     requires { ⌜ Accepted (spaceCell (cell t (now conn) (now xs)))
         × (3 * cornersOf (spaceCell (cell t (now conn) (now xs))) ≤ length (now out))
         × (faceCount (spaceCell (cell t (now conn) (now xs))) ≤ length (now «face_ends»)) ⌝ }

@@ -47,7 +47,11 @@ pub fn slice_line_3d(
 {
     match cell::test_space_cell(t, conn, xs) {
         Reading::Refused(k) => Line::Refused(k),
-        Reading::Cell { corners, faces: _ } => match cuts::place(Way::Direction, origin, direction) {
+        Reading::Cell { corners, faces: _ } => match cuts::place(
+            Way::Direction,
+            origin,
+            direction,
+        ) {
             Placing::Refused(k) => Line::Refused(k),
             Placing::On(plane) => {
                 if 14 * corners > numbers.len() {

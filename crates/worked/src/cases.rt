@@ -68,7 +68,17 @@ fn by_plane_in(
     nodes: &mut [u32],
     ends: &mut [u32],
 ) {
-    let s = plane_cut::section_cell_by_plane(t, conn, xs, origin, normal, 0.0, numbers, nodes, ends);
+    let s = plane_cut::section_cell_by_plane(
+        t,
+        conn,
+        xs,
+        origin,
+        normal,
+        0.0,
+        numbers,
+        nodes,
+        ends,
+    );
     show::section(s, numbers, nodes, ends);
 }
 

@@ -29,13 +29,13 @@ enum-told : tie.Need-enum-told
 enum-told c = search needs
 
 returns-3 : tie.Need-returns-3
-returns-3 c = 
+returns-3 c =
     let s = c .before .before .before .before .before .before .before .before .before .before in
     ap (λ r. frameIn (view.placed r)) (sym (c .before .p .given .1))
     ∙ frame-made (s .args .way) (through (s .args .origin .now) (s .args .vector .now)) (c .before .before .before .before .before .before .before .if1 .left) (c .before .before .before .before .before .before .if2 .left) (c .before .before .before .before .before .point3 .ensures) (c .before .before .before .before .point32 .ensures) (c .before .before .before .plane-by .ensures)
 
 returns-4 : tie.Need-returns-4
-returns-4 c = 
+returns-4 c =
     let s = c .before .before .before .before .before .before .before .before .before in
     ap (λ r. frameIn (view.placed r)) (sym (c .enum-told .given .1))
     ∙ frame-made (s .args .way) (through (s .args .origin .now) (s .args .vector .now)) (c .before .before .before .before .before .before .if1 .left) (c .before .before .before .before .before .if2 .left) (c .before .before .before .before .point3 .ensures) (c .before .before .before .point32 .ensures) (c .before .before .plane-by .ensures)

@@ -10,7 +10,7 @@ slice-aggregate-gather-fixed : tie.Need-slice-aggregate-gather-fixed
 slice-aggregate-gather-fixed c = search needs
 
 gather-fixed-requires : tie.Need-gather-fixed-requires
-gather-fixed-requires c κs = 
+gather-fixed-requires c κs =
     let s = c .before .before .before .before .before .before in
     (record { accepted = s .pre .0 .accepted; room = omega (arith, s .pre .1 .corners) }, s .pre .1)
 
@@ -18,7 +18,7 @@ slice-aggregate-stitch-segments : tie.Need-slice-aggregate-stitch-segments
 slice-aggregate-stitch-segments c = search needs
 
 stitch-segments-requires : tie.Need-stitch-segments-requires
-stitch-segments-requires c κs = 
+stitch-segments-requires c κs =
     let s = c .before .before .before .before .before .before .before .before .before .before .before .before in
     lent (frameOf (s .args .plane)) (s .args .tol) (s .pre .0) (s .pre .1) (omega arith) (c .before .before .before .before .before .gather-fixed .ensures .segments) (search needs)
 

@@ -40,24 +40,24 @@ mul-if1 : tie.Need-mul-if1
 mul-if1 c = let s = c .before .before .before .before .before .before .before .before .before .before .before .before .before in omega (arith, corners-few (cell (s .args .t) (s .args .conn .now) (s .args .xs .now)) (c .before .before .before .before .before .before .before .test-space-cell .ensures) (c .before .before .before .before .before .corners .given .1))
 
 returns : tie.Need-returns
-returns c = 
+returns c =
     let s = c .before .before .before .before .before .before .before .before .before .before .before .before .before .before in
     line-refused _ (at-work (c .before .before .before .before .before .before .before .before .test-space-cell .ensures) (c .before .before .before .before .before .before .corners .given .1) (lineIn (s .args .tol) (length (s .args .numbers .now))) (sym (c .before .before .before .before .place .ensures) ∙ ap placing (c .before .before .plane .given .1)) (test-failed 7 _ _ (lt-leb _ _ (c .if1 .taken))))
 
 line-cell-requires : tie.Need-line-cell-requires
-line-cell-requires c κs = 
+line-cell-requires c κs =
     record {
       accepted = was-accepted (c .before .before .before .before .before .before .before .before .before .test-space-cell .ensures) (c .before .before .before .before .before .before .before .corners .given .1);
       room = omega (arith, corners-told (c .before .before .before .before .before .before .before .before .before .test-space-cell .ensures) (c .before .before .before .before .before .before .before .corners .given .1), c .before .if1 .left);
     }
 
 returns-2 : tie.Need-returns-2
-returns-2 c = 
+returns-2 c =
     let s = c .before .before .before .before .before .before .before .before .before in
     line-refused _ (cell-refused (c .before .before .before .test-space-cell .ensures) (placeIn Direction (through (s .args .origin .now) (s .args .direction .now))) (lineIn (s .args .tol) (length (s .args .numbers .now))) (c .before .k .given .1))
 
 returns-3 : tie.Need-returns-3
-returns-3 c = 
+returns-3 c =
     let s = c .before .before .before .before .before .before .before .before .before .before .before .before .before in
     line-refused _ (place-refused (c .before .before .before .before .before .before .before .test-space-cell .ensures) (c .before .before .before .before .before .corners .given .1) (lineIn (s .args .tol) (length (s .args .numbers .now))) (sym (c .before .before .before .place .ensures) ∙ ap placing (c .before .k2 .given .1)))
 
@@ -65,7 +65,7 @@ same-length : tie.Need-same-length
 same-length c = search needs
 
 returns-4 : tie.Need-returns-4
-returns-4 c = 
+returns-4 c =
     let s = c .before .before .before .before .before .before .before .before .before .before .before .before .before .before .before .before .before .before in
     line-gave {w = 3} (at-work (c .before .before .before .before .before .before .before .before .before .before .before .before .test-space-cell .ensures) (c .before .before .before .before .before .before .before .before .before .before .corners .given .1) (lineIn (s .args .tol) (length (s .args .numbers .now))) (sym (c .before .before .before .before .before .before .before .before .place .ensures) ∙ ap placing (c .before .before .before .before .before .before .plane .given .1)) (test-passed 7 _ _ (le-leb _ _ (c .before .before .before .before .if1 .left)))) (c .before .before .line-cell .ensures .segments) (search needs)
     (line-fits (frameOf (c .before .before .before .before .before .before .plane .given .0 .0)) (s .args .tol) (polygonsOf (spaceCell (cell (s .args .t) (s .args .conn .now) (s .args .xs .now)))) (omega (arith, corners-told (c .before .before .before .before .before .before .before .before .before .before .before .before .test-space-cell .ensures) (c .before .before .before .before .before .before .before .before .before .before .corners .given .1), c .before .before .before .before .if1 .left)) (c .before .before .line-cell .ensures .segments))

@@ -39,12 +39,12 @@ mul-if1 : tie.Need-mul-if1
 mul-if1 c = let s = c .before .before .before .before .before .before .before .before .before .before .before .before .before in omega (arith, corners-told (c .before .before .before .before .before .before .before .test-plane-cell .ensures) (c .before .before .before .before .before .corners .given .1), few-corners (cell (s .args .t) (s .args .conn .now) (s .args .xs .now)) _ (was-accepted (c .before .before .before .before .before .before .before .test-plane-cell .ensures) (c .before .before .before .before .before .corners .given .1)))
 
 returns : tie.Need-returns
-returns c = 
+returns c =
     let s = c .before .before .before .before .before .before .before .before .before .before .before .before .before .before in
     line-refused _ (at-work (c .before .before .before .before .before .before .before .before .test-plane-cell .ensures) (c .before .before .before .before .before .before .corners .given .1) (segmentsIn (length (s .args .numbers .now))) (sym (c .before .before .before .before .place .ensures) ∙ ap cutting (c .before .before .cut .given .1)) (test-failed 7 _ _ (lt-leb _ _ (c .if1 .taken))))
 
 line-cell-requires : tie.Need-line-cell-requires
-line-cell-requires c κs = 
+line-cell-requires c κs =
     record {
       accepted = was-accepted (c .before .before .before .before .before .before .before .before .before .test-plane-cell .ensures) (c .before .before .before .before .before .before .before .corners .given .1);
       corners = corners-told (c .before .before .before .before .before .before .before .before .before .test-plane-cell .ensures) (c .before .before .before .before .before .before .before .corners .given .1);
@@ -52,12 +52,12 @@ line-cell-requires c κs =
     }
 
 returns-2 : tie.Need-returns-2
-returns-2 c = 
+returns-2 c =
     let s = c .before .before .before .before .before .before .before .before .before in
     line-refused _ (cell-refused (c .before .before .before .test-plane-cell .ensures) (lineThrough (s .args .by) (through (s .args .origin .now) (s .args .vector .now)) (s .args .tol)) (segmentsIn (length (s .args .numbers .now))) (c .before .k .given .1))
 
 returns-3 : tie.Need-returns-3
-returns-3 c = 
+returns-3 c =
     let s = c .before .before .before .before .before .before .before .before .before .before .before .before .before in
     line-refused _ (place-refused (c .before .before .before .before .before .before .before .test-plane-cell .ensures) (c .before .before .before .before .before .corners .given .1) (segmentsIn (length (s .args .numbers .now))) (sym (c .before .before .before .place .ensures) ∙ ap cutting (c .before .k2 .given .1)))
 
@@ -65,7 +65,7 @@ same-length : tie.Need-same-length
 same-length c = search needs
 
 returns-4 : tie.Need-returns-4
-returns-4 c = 
+returns-4 c =
     let s = c .before .before .before .before .before .before .before .before .before .before .before .before .before .before .before .before .before .before in
     line-gave {w = 2} (at-work (c .before .before .before .before .before .before .before .before .before .before .before .before .test-plane-cell .ensures) (c .before .before .before .before .before .before .before .before .before .before .corners .given .1) (segmentsIn (length (s .args .numbers .now))) (sym (c .before .before .before .before .before .before .before .before .place .ensures) ∙ ap cutting (c .before .before .before .before .before .before .cut .given .1)) (test-passed 7 _ _ (le-leb _ _ (c .before .before .before .before .if1 .left)))) (c .before .before .line-cell .ensures .segments) (search needs)
     (segments-fit (cell (s .args .t) (s .args .conn .now) (s .args .xs .now)) (was-accepted (c .before .before .before .before .before .before .before .before .before .before .before .before .test-plane-cell .ensures) (c .before .before .before .before .before .before .before .before .before .before .corners .given .1)) (cut2 (c .before .before .before .before .before .before .cut .given .0 .0)) (omega (arith, corners-told (c .before .before .before .before .before .before .before .before .before .before .before .before .test-plane-cell .ensures) (c .before .before .before .before .before .before .before .before .before .before .corners .given .1), c .before .before .before .before .if1 .left)) (c .before .before .line-cell .ensures .segments))

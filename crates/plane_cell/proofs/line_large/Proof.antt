@@ -26,7 +26,7 @@ same-length : tie.Need-same-length
 same-length c = search needs
 
 returns : tie.Need-returns
-returns c = 
+returns c =
     let s = c .before .before .before .before .before .before .before .before .before .before .before .before .before in
     record { segments = segments-same (copied-segments (cell (s .args .t) (s .args .conn .now) (s .args .xs .now)) (s .pre .0 .accepted) (s .pre .0 .corners) (c .before .before .before .before .before .before .before .before .copy-plane-cell .ensures) (cut2 (s .args .cut))) (c .before .before .before .plane-section-segments .ensures .segments) }
 

@@ -31,13 +31,13 @@ enum-told : tie.Need-enum-told
 enum-told c = search needs
 
 returns-3 : tie.Need-returns-3
-returns-3 c = 
+returns-3 c =
     let s = c .before .before .before .before .before .before .before .before .before .before in
     ap (λ x. lineWith (vec2 (c .point22 .result)) (s .args .tol) (unit2 x)) (sym (c .before .before .n .given .1))
     ∙ line-made (s .args .by) (through (s .args .origin .now) (s .args .vector .now)) (s .args .tol) (c .before .before .before .before .before .before .before .if1 .left) (c .before .before .before .before .before .before .if2 .left) (c .point22 .ensures) (c .before .before .before .before .before .point2 .ensures) (c .before .before .before .before .normal-by .ensures)
 
 returns-4 : tie.Need-returns-4
-returns-4 c = 
+returns-4 c =
     let s = c .before .before .before .before .before .before .before .before in
     ap (λ x. lineWith (s .args .origin .now) (s .args .tol) (unit2 x)) (sym (c .enum-told .given .1))
     ∙ line-made (s .args .by) (through (s .args .origin .now) (s .args .vector .now)) (s .args .tol) (c .before .before .before .before .before .if1 .left) (c .before .before .before .before .if2 .left) (sym (whole-row 2 (s .args .origin .now) (c .before .before .before .before .before .if1 .left))) (c .before .before .before .point2 .ensures) (c .before .before .normal-by .ensures)

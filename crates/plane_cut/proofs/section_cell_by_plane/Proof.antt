@@ -54,22 +54,22 @@ room-requires : tie.Need-room-requires
 room-requires c κs = search needs
 
 returns : tie.Need-returns
-returns c = 
+returns c =
     let s = c .before .before .before .before .before .before .before .before .before .before .before .before .before .before .before .before .before in
     gave-refusal _ (at-work (c .before .before .before .before .before .before .before .before .before .test-space-cell .ensures) (c .before .before .before .before .before .before .before .corners .given .1) (work s) (sym (c .before .before .before .before .before .place .ensures) ∙ ap placing (c .before .before .before .plane .given .1)) (test-failed 7 _ _ (sym (c .before .room .ensures) ∙ not-true _ (c .if1 .taken))))
 
 section-cell-requires : tie.Need-section-cell-requires
-section-cell-requires c κs = 
+section-cell-requires c κs =
     let s = c .before .before .before .before .before .before .before .before .before .before .before .before .before .before .before .before .before .before .before .before in
     can-section (cell (s .args .t) (s .args .conn .now) (s .args .xs .now)) (c .before .before .before .before .before .before .before .before .before .before .before .before .test-space-cell .ensures) (c .before .before .before .before .before .before .before .before .before .before .corners .given .1) _ _ _ (sym (c .before .before .before .before .room .ensures) ∙ not-false _ (c .before .before .before .if1 .left))
 
 returns-2 : tie.Need-returns-2
-returns-2 c = 
+returns-2 c =
     let s = c .before .before .before .before .before .before .before .before .before .before .before in
     gave-refusal _ (cell-refused (c .before .before .before .test-space-cell .ensures) (placeIn Normal (through (s .args .origin .now) (s .args .normal .now))) (work s) (c .before .k .given .1))
 
 returns-3 : tie.Need-returns-3
-returns-3 c = 
+returns-3 c =
     let s = c .before .before .before .before .before .before .before .before .before .before .before .before .before .before .before in
     gave-refusal _ (place-refused (c .before .before .before .before .before .before .before .test-space-cell .ensures) (c .before .before .before .before .before .corners .given .1) (work s) (sym (c .before .before .before .place .ensures) ∙ ap placing (c .before .k2 .given .1)))
 
@@ -83,7 +83,7 @@ same-length-3 : tie.Need-same-length-3
 same-length-3 c = search needs
 
 returns-4 : tie.Need-returns-4
-returns-4 c = 
+returns-4 c =
     let s = c .before .before .before .before .before .before .before .before .before .before .before .before .before .before .before .before .before .before .before .before .before .before .before .before .before .before .before in
     gave-section (at-work (c .before .before .before .before .before .before .before .before .before .before .before .before .before .before .before .before .before .before .before .test-space-cell .ensures) (c .before .before .before .before .before .before .before .before .before .before .before .before .before .before .before .before .before .corners .given .1) (work s) (sym (c .before .before .before .before .before .before .before .before .before .before .before .before .before .before .before .place .ensures) ∙ ap placing (c .before .before .before .before .before .before .before .before .before .before .before .before .before .plane .given .1)) (test-passed 7 _ _ (sym (c .before .before .before .before .before .before .before .before .before .before .before .room .ensures) ∙ not-false _ (c .before .before .before .before .before .before .before .before .before .before .if1 .left)))) (c .before .before .before .before .before .before .section-cell .ensures .stitched)
 
