@@ -23,6 +23,7 @@ use clip::plane::Cut;
 use cuts::Line;
 use cuts::Placing;
 use cuts::Way;
+use stitch::wide;
 use vector::Plane;
 use vector::Vec2;
 use vector::Vec3;
@@ -258,11 +259,4 @@ fn on_line(plane: Plane, a: Vec2) -> Vec3
     let o = plane.origin;
     let u = plane.u;
     o.plus(u.scaled(a.x))
-}
-
-// A node number as an index.
-fn wide(x: u32) -> usize
-    ensures { λ r. ⌜ r ≡ x ⌝ }
-{
-    x as usize
 }

@@ -693,7 +693,7 @@ fn put_reversed(out: &mut [u32], at: usize, nodes: &[u32])
 }
 
 // A node number as an index.
-fn wide(x: u32) -> usize
+pub fn wide(x: u32) -> usize
     ensures { λ r. ⌜ r ≡ x ⌝ }
 {
     x as usize

@@ -4,8 +4,8 @@ use mathlib.Core.Path.{_∙_, refl}
 use Prim.Native.Nat.{_-_}
 use native.Mathlib.Omega.{arith}
 use Rattle.vector.specs.View.{frameOf}
-use Rattle.line_cut.specs.LineCut.{segmentOnLine}
-use Rattle.line_cut.proofs.Carrying.{Carrying, carrying-end, carrying-start, carrying-step, on-line-ends}
+use Rattle.line_cut.specs.LineCut.{onLine, segmentOnLine}
+use Rattle.clip.proofs.Carrying.{Carrying, carrying-end, carrying-start, carrying-step, by-ends}
 use Rattle.line_cut.proofs.put_on_line.Statement.{statement}
 use Rattle.line_cut.proofs.put_on_line.Tie as tie
 
@@ -71,7 +71,7 @@ loop-again c =
     let second = c .before .before .put32 in
     carrying-step v (c .before .before .before .before .before .before .before .before .before .before .before .before .loop-test .taken)
     (omega (arith, s .pre .1))
-    (on-line-ends (frameOf (s .args .plane)) (c .before .before .before .before .before .before .before .before .before .before .point2
+    (by-ends (onLine (frameOf (s .args .plane))) (c .before .before .before .before .before .before .before .before .before .before .point2
     .ensures) (c .before .before .before .before .before .before .before .before .before .on-line .ensures) (c .before .before .before
     .before .point22 .ensures) (c .before .before .before .on-line2 .ensures)) refl refl
     (first .ensures) (second .ensures) (second .kept .0 ∙ first .kept .0 ∙ v .same-length)
