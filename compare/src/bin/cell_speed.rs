@@ -35,6 +35,8 @@ fn main() {
     compared("brick, a hexagon", 500_000, &brick(middle, [1.0; 3]));
     let wedge = cell(Entry::Plane, 16, &WEDGE, &at(0.5), &UP);
     compared("wedge, a triangle", 500_000, &wedge);
+    compared("brick as a polyhedron, a square", 500_000, &polyhedron(0.5));
+    compared("brick as a polyhedron, missed", 500_000, &polyhedron(2.0));
     compared("polyhedron of 50 quadrilaterals", 50_000, &tube(50));
     let line = cell(
         Entry::LineInSpace,
@@ -67,6 +69,21 @@ fn cell(entry: Entry, number: u8, coords: &[f64], origin: &[f64], vector: &[f64]
 fn lent(case: Case) -> Case {
     let lent = room(&case);
     Case { lent, ..case }
+}
+
+/// The brick handed over as a polyhedron of its six faces, cut at a height.
+fn polyhedron(z: f64) -> Case {
+    const FACES: [[u64; 4]; 6] = [
+        [0, 3, 2, 1],
+        [4, 5, 6, 7],
+        [0, 1, 5, 4],
+        [2, 3, 7, 6],
+        [1, 2, 6, 5],
+        [3, 0, 4, 7],
+    ];
+    let mut case = cell(Entry::Plane, 18, &UNIT_CUBE, &[0.0, 0.0, z], &UP);
+    case.conn = FACES.join(&u64::MAX);
+    lent(case)
 }
 
 /// A ring of `n` walls, cut at half its height.
