@@ -1,5 +1,9 @@
 //! The functions of include/cicelybeam.h, called with the inputs and buffers of a case.
 
+use cicelybeam::lent::{cut_by_line, cut_by_plane, cut_plane_cell_by_direction};
+use cicelybeam::lent::{cut_plane_cell_by_normal, stitch, Buffers, Written};
+use cicelybeam::{tolerance_in_plane, tolerance_in_space, Refusal};
+
 /// Which function, by the number that recorded answers have for it.
 #[derive(Clone, Copy, Debug, PartialEq, Eq)]
 pub enum Entry {
@@ -132,225 +136,73 @@ pub struct Lent<'a> {
     pub ends: &'a mut [u32],
 }
 
-mod linked {
-    #[repr(C)]
-    pub struct Section {
-        pub refusal: u32,
-        pub points: u32,
-        pub nodes: u32,
-        pub loops: u32,
-        pub listed: u32,
-        pub in_loops: u32,
-        pub flat: u32,
-        pub open: u32,
-    }
-
-    #[repr(C)]
-    pub struct Line {
-        pub refusal: u32,
-        pub segments: u32,
-    }
-
-    #[repr(C)]
-    pub struct Tolerance {
-        pub refusal: u32,
-        pub value: f64,
-    }
-
-    /// A cell and the line that cuts it.
-    pub type LineCut = unsafe extern "C" fn(
-        number: u8,
-        conn: *const u64,
-        conn_len: usize,
-        coords: *const f64,
-        coords_len: usize,
-        origin: *const f64,
-        origin_len: usize,
-        vector: *const f64,
-        vector_len: usize,
-        tol: f64,
-        numbers: *mut f64,
-        numbers_len: usize,
-    ) -> Line;
-
-    extern "C" {
-        pub fn cicelybeam_plane(
-            number: u8,
-            conn: *const u64,
-            conn_len: usize,
-            coords: *const f64,
-            coords_len: usize,
-            origin: *const f64,
-            origin_len: usize,
-            normal: *const f64,
-            normal_len: usize,
-            tol: f64,
-            numbers: *mut f64,
-            numbers_len: usize,
-            nodes: *mut u32,
-            nodes_len: usize,
-            ends: *mut u32,
-            ends_len: usize,
-        ) -> Section;
-        pub fn cicelybeam_line_in_space(
-            number: u8,
-            conn: *const u64,
-            conn_len: usize,
-            coords: *const f64,
-            coords_len: usize,
-            origin: *const f64,
-            origin_len: usize,
-            direction: *const f64,
-            direction_len: usize,
-            tol: f64,
-            numbers: *mut f64,
-            numbers_len: usize,
-        ) -> Line;
-        pub fn cicelybeam_plane_cell_by_normal(
-            number: u8,
-            conn: *const u64,
-            conn_len: usize,
-            coords: *const f64,
-            coords_len: usize,
-            origin: *const f64,
-            origin_len: usize,
-            normal: *const f64,
-            normal_len: usize,
-            tol: f64,
-            numbers: *mut f64,
-            numbers_len: usize,
-        ) -> Line;
-        pub fn cicelybeam_plane_cell_by_direction(
-            number: u8,
-            conn: *const u64,
-            conn_len: usize,
-            coords: *const f64,
-            coords_len: usize,
-            origin: *const f64,
-            origin_len: usize,
-            direction: *const f64,
-            direction_len: usize,
-            tol: f64,
-            numbers: *mut f64,
-            numbers_len: usize,
-        ) -> Line;
-        pub fn cicelybeam_stitch(
-            segments: *const f64,
-            segments_len: usize,
-            tol: f64,
-            numbers: *mut f64,
-            numbers_len: usize,
-            nodes: *mut u32,
-            nodes_len: usize,
-            ends: *mut u32,
-            ends_len: usize,
-        ) -> Section;
-        pub fn cicelybeam_tolerance_in_space(coords: *const f64, coords_len: usize) -> Tolerance;
-        pub fn cicelybeam_tolerance_in_plane(coords: *const f64, coords_len: usize) -> Tolerance;
-    }
-}
-
-// SAFETY, for every call below: the function is proved to return, to read and write no more than the
-// slices that it is lent, whatever their lengths, and a slice is a pointer and a length.
-
-/// The linked function, called.
+/// The entry, called by the Rust crate's functions over lent buffers.
 pub fn ours(case: &Case, lent: Lent) -> Told {
+    let (number, conn, coords) = (case.number, &case.conn, &case.coords);
+    let (origin, vector, tol) = (&case.origin, &case.vector, case.tol);
+    let Lent {
+        numbers,
+        nodes,
+        ends,
+    } = lent;
+    let into = |numbers, nodes, ends| Buffers {
+        numbers,
+        nodes,
+        ends,
+    };
     match case.entry {
-        Entry::Plane => plane(case, lent),
-        Entry::LineInSpace => line(linked::cicelybeam_line_in_space, case, lent),
-        Entry::PlaneCellByNormal => line(linked::cicelybeam_plane_cell_by_normal, case, lent),
-        Entry::PlaneCellByDirection => line(linked::cicelybeam_plane_cell_by_direction, case, lent),
-        Entry::Stitch => stitch(case, lent),
-        Entry::ToleranceInSpace | Entry::ToleranceInPlane => tolerance(case),
+        Entry::Plane => {
+            let into = into(numbers, nodes, ends);
+            section(cut_by_plane(
+                number, conn, coords, origin, vector, tol, into,
+            ))
+        }
+        Entry::Stitch => section(stitch(&case.segments, tol, into(numbers, nodes, ends))),
+        Entry::LineInSpace => line(cut_by_line(
+            number, conn, coords, origin, vector, tol, numbers,
+        )),
+        Entry::PlaneCellByNormal => line(cut_plane_cell_by_normal(
+            number, conn, coords, origin, vector, tol, numbers,
+        )),
+        Entry::PlaneCellByDirection => line(cut_plane_cell_by_direction(
+            number, conn, coords, origin, vector, tol, numbers,
+        )),
+        Entry::ToleranceInSpace => tolerance(tolerance_in_space(coords)),
+        Entry::ToleranceInPlane => tolerance(tolerance_in_plane(coords)),
     }
 }
 
-fn plane(case: &Case, lent: Lent) -> Told {
-    section(unsafe {
-        linked::cicelybeam_plane(
-            case.number,
-            case.conn.as_ptr(),
-            case.conn.len(),
-            case.coords.as_ptr(),
-            case.coords.len(),
-            case.origin.as_ptr(),
-            case.origin.len(),
-            case.vector.as_ptr(),
-            case.vector.len(),
-            case.tol,
-            lent.numbers.as_mut_ptr(),
-            lent.numbers.len(),
-            lent.nodes.as_mut_ptr(),
-            lent.nodes.len(),
-            lent.ends.as_mut_ptr(),
-            lent.ends.len(),
-        )
-    })
-}
-
-fn line(cut: linked::LineCut, case: &Case, lent: Lent) -> Told {
-    let found = unsafe {
-        cut(
-            case.number,
-            case.conn.as_ptr(),
-            case.conn.len(),
-            case.coords.as_ptr(),
-            case.coords.len(),
-            case.origin.as_ptr(),
-            case.origin.len(),
-            case.vector.as_ptr(),
-            case.vector.len(),
-            case.tol,
-            lent.numbers.as_mut_ptr(),
-            lent.numbers.len(),
-        )
-    };
+fn refused(refusal: Refusal) -> Told {
     Told {
-        refusal: found.refusal,
-        points: found.segments,
+        refusal: refusal.number(),
         ..Told::default()
     }
 }
 
-fn stitch(case: &Case, lent: Lent) -> Told {
-    section(unsafe {
-        linked::cicelybeam_stitch(
-            case.segments.as_ptr(),
-            case.segments.len(),
-            case.tol,
-            lent.numbers.as_mut_ptr(),
-            lent.numbers.len(),
-            lent.nodes.as_mut_ptr(),
-            lent.nodes.len(),
-            lent.ends.as_mut_ptr(),
-            lent.ends.len(),
-        )
-    })
-}
-
-fn section(found: linked::Section) -> Told {
-    Told {
-        refusal: found.refusal,
-        points: found.points,
-        nodes: found.nodes,
-        loops: found.loops,
-        listed: found.listed,
-        in_loops: found.in_loops,
-        flat: found.flat,
-        open: found.open,
+fn section(found: Result<Written, Refusal>) -> Told {
+    found.map_or_else(refused, |found| Told {
+        refusal: 0,
+        points: found.points as u32,
+        nodes: found.nodes as u32,
+        loops: found.loops as u32,
+        listed: found.edges.listed,
+        in_loops: found.edges.in_loops,
+        flat: found.edges.flat,
+        open: found.edges.open,
         tolerance: 0.0,
-    }
+    })
 }
 
-fn tolerance(case: &Case) -> Told {
-    let work = match case.entry {
-        Entry::ToleranceInPlane => linked::cicelybeam_tolerance_in_plane,
-        _ => linked::cicelybeam_tolerance_in_space,
-    };
-    let found = unsafe { work(case.coords.as_ptr(), case.coords.len()) };
-    Told {
-        refusal: found.refusal,
-        tolerance: found.value,
+fn line(found: Result<usize, Refusal>) -> Told {
+    found.map_or_else(refused, |segments| Told {
+        points: segments as u32,
         ..Told::default()
-    }
+    })
+}
+
+fn tolerance(found: Result<f64, Refusal>) -> Told {
+    found.map_or_else(refused, |value| Told {
+        tolerance: value,
+        ..Told::default()
+    })
 }

@@ -5,7 +5,6 @@ mod linked {
     use super::Stitched;
 
     extern "C" {
-        pub fn cicelybeam_sqrt(x: f64) -> f64;
         pub fn trial_space_segments(
             poly: *const f64,
             poly_len: usize,
@@ -72,7 +71,7 @@ pub const REFUSED: usize = u32::MAX as usize;
 
 /// The proved square root.
 pub fn sqrt(x: f64) -> f64 {
-    unsafe { linked::cicelybeam_sqrt(x) }
+    cicelybeam::sqrt(x)
 }
 
 /// The segments of a polygon, written to `out`; how many there are, or [`REFUSED`]. The width is 2 or 3.
