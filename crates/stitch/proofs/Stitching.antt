@@ -7,7 +7,8 @@ use native.Mathlib.Numerals.{add-one}
 use native.Mathlib.Omega.{arith}
 use lib.Ieee.{Float}
 use lib.ListN.{length, getD, set, take, drop, replicate, length-append, length-replicate, drop-of-length-le}
-use lib.Seq.{drop-cons, drop-drop, drop-append-add, take-append-seam, take-length, set-append-seam, paste}
+use lib.Seq.{drop-cons, set-append-seam, paste}
+use Rattle.rows.proofs.Lists.{ends-snoc, flatten-snoc, length-ends, over-more}
 use Rattle.vector.specs.Vector.{Vector}
 use Rattle.vector.specs.Rows.{rows, over, endsFrom}
 use Rattle.weld.specs.Weld.{Edge}
@@ -25,14 +26,6 @@ use Rattle.stitch.proofs.Counted.{plus-in-walks, plus-in-loops}
 use Rattle.stitch.proofs.Turns.{Fit, loop-fits}
 
 -- ---- writing over the start of a buffer, and then more
-pub over-more : (a l xs : List ℕ) → paste (over a xs) (length a) l (length l) ≡ over (a ++ l) xs
-over-more a l xs =
-    let rest = drop (length a) xs in
-    ap (λ (x : List ℕ). x ++ take (length l) l ++ drop (length a + length l) (a ++ rest)) (take-append-seam a rest)
-    ∙ ap (λ (x : List ℕ). a ++ x ++ drop (length a + length l) (a ++ rest)) (take-length l)
-    ∙ ap (λ (x : List ℕ). a ++ l ++ x) (drop-append-add a rest (length l) ∙ drop-drop (length l) (length a) xs)
-    ∙ ap (λ (k : ℕ). a ++ l ++ drop k xs) (sym (length-append a l))
-
 pub over-set : (a xs : List ℕ) (v : ℕ) → length a < length xs → set (over a xs) (length a) v ≡ over (a ++ v ∷ []) xs
 over-set a xs v h =
     let e : length (a ++ v ∷ []) ≡ suc (length a) = length-append a (v ∷ []) ∙ omega arith in
@@ -41,34 +34,15 @@ over-set a xs v h =
     ∙ sym (append-assoc a (v ∷ []) (drop (length (a ++ v ∷ [])) xs) ∙ ap (λ (k : ℕ). a ++ v ∷ drop k xs) e)
 
 -- ---- one loop more
-flatten-snoc : (ls : List (List ℕ)) (l : List ℕ) → flatten (ls ++ l ∷ []) ≡ flatten ls ++ l
-unfolding flatten
-flatten-snoc [] l = append-nil l
-flatten-snoc (k ∷ ls) l = ap (λ (x : List ℕ). k ++ x) (flatten-snoc ls l) ∙ sym (append-assoc k (flatten ls) l)
-
-ends-snoc : (n : ℕ) (ls : List (List ℕ)) (l : List ℕ)
-    → endsFrom n (ls ++ l ∷ []) ≡ endsFrom n ls ++ (n + length (flatten ls) + length l) ∷ []
-unfolding endsFrom flatten
-ends-snoc n [] l = let e : n + length l ≡ n + 0 + length l = omega arith in rw e
-ends-snoc n (k ∷ ls) l =
-    let e : n + length k + length (flatten ls) + length l ≡ n + length (k ++ flatten ls) + length l =
-    let a = length-append k (flatten ls) in omega arith in
-    rw (ends-snoc (n + length k) ls l, e)
-
-pub ends-length : (n : ℕ) (ls : List (List ℕ)) → length (endsFrom n ls) ≡ length ls
-unfolding endsFrom
-ends-length n [] = refl
-ends-length n (l ∷ ls) = ap suc (ends-length (n + length l) ls)
-
 -- its nodes and its end are written after those of the others
 nodes-written : (done : List (List ℕ)) (l : List ℕ) (at : ℕ) (nodes nodes′ : List ℕ) → nodes′ ≡ over (flatten done) nodes
     → at ≡ length (flatten done) → paste nodes′ at l (length l) ≡ over (flatten (done ++ l ∷ [])) nodes
-nodes-written done l at nodes nodes′ e a = rw (e, a, flatten-snoc done l) (over-more (flatten done) l nodes)
+nodes-written done l at nodes nodes′ e a = rw (e, a, flatten-snoc done l) (over-more (flatten done) l nodes _ _ refl refl)
 
 ends-written : (done : List (List ℕ)) (l : List ℕ) (k e : ℕ) (ends ends′ : List ℕ) → ends′ ≡ over (endsFrom 0 done) ends
     → k ≡ length done → e ≡ length (flatten done) + length l → k < length ends → set ends′ k e ≡ over (endsFrom 0 (done ++ l ∷ [])) ends
 ends-written done l k e ends ends′ w c q h =
-    let n = ends-length 0 done in
+    let n = length-ends 0 done in
     let k′ : k ≡ length (endsFrom 0 done) = omega arith in
     let e′ : e ≡ 0 + length (flatten done) + length l = omega arith in
     rw (w, k′, e′, ends-snoc 0 done l)

@@ -21,7 +21,7 @@ use Rattle.stitch.specs.Stitch.{loops, countsOf, Answer, stitchedWithin}
 use Rattle.stitch.specs.Claim.{Claim}
 use Rattle.stitch.specs.Code.{Marked, Spare, Wrote, Stitchable, Answered, cut, answerIn, Stitches}
 use Rattle.stitch.proofs.Claim.{claim}
-use Rattle.stitch.proofs.Stitching.{ends-length}
+use Rattle.rows.proofs.Lists.{length-ends}
 
 -- fresh marks, as many as there are edges
 fresh-part : (n k : ℕ) → k ≤ n → take k (replicate n false) ≡ replicate k false
@@ -57,7 +57,7 @@ cut-ends n (l ∷ ls) tail =
 pub read-back : (a : Answer) (r : Stitched) (numbers numbers′ : List Float) (nodes nodes′ ends ends′ : List ℕ)
     → Answered a r numbers numbers′ nodes nodes′ ends ends′ → answerIn r numbers′ nodes′ ends′ ≡ a
 read-back a r numbers numbers′ nodes nodes′ ends ends′ g =
-    let m : length (endsFrom 0 (a .loops)) ≡ r .loops = ends-length 0 (a .loops) ∙ sym (g .loop-count) in
+    let m : length (endsFrom 0 (a .loops)) ≡ r .loops = length-ends 0 (a .loops) ∙ sym (g .loop-count) in
     let e : take (r .loops) ends′ ≡ endsFrom 0 (a .loops) =
     ap (take (r .loops)) (g .ends-are) ∙ take-at (endsFrom 0 (a .loops)) (drop (length (endsFrom 0 (a .loops))) ends) (r .loops) m in
     let l : cut 0 (take (r .loops) ends′) nodes′ ≡ a .loops =

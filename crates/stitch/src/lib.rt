@@ -685,10 +685,10 @@ fn put_reversed(out: &mut [u32], at: usize, nodes: &[u32])
     ensures { λ _. ⌜ now (out .exit) ≡ paste (now (out .entry)) at (reverse (now (nodes .entry)))
         (length (now (nodes .entry))) ⌝ }
 {
-    let mut j = 0;
-    while j < nodes.len() {
-        out[at + j] = nodes[nodes.len() - 1 - j];
-        j += 1;
+    let mut k = 0;
+    while k < nodes.len() {
+        out[at + k] = nodes[nodes.len() - 1 - k];
+        k += 1;
     }
 }
 

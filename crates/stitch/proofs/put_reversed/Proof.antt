@@ -9,10 +9,10 @@ use Rattle.stitch.proofs.put_reversed.Statement.{statement}
 use Rattle.stitch.proofs.put_reversed.Tie as tie
 
 abbrev Inv-loop : tie.InvT-loop
-Inv-loop out₀ at nodes j₀ out j = Copying out₀ at (reverse nodes) (length nodes) j out
+Inv-loop out₀ at nodes k₀ out k = Copying out₀ at (reverse nodes) (length nodes) k out
 
 abbrev μ-loop : tie.MeasureT-loop
-μ-loop out₀ at nodes j₀ out j = length nodes - j
+μ-loop out₀ at nodes k₀ out k = length nodes - k
 
 loop-holds : tie.Need-loop-holds Inv-loop μ-loop
 loop-holds c =
@@ -42,8 +42,8 @@ slice-write-out c =
     let l = c .before .before .loop in
     omega (arith, copy-length (l .inv))
 
-add-j : tie.Need-add-j Inv-loop μ-loop
-add-j c = omega arith
+add-k : tie.Need-add-k Inv-loop μ-loop
+add-k c = omega arith
 
 loop-less : tie.Need-loop-less Inv-loop μ-loop
 loop-less c = omega arith
@@ -53,7 +53,7 @@ loop-again c =
     let g = c .before .before .before .args in
     let l = c .before .before .loop in
     copy-step (l .inv) (c .before .loop-test .taken)
-    (sym (getD-reverse (g .nodes .now) (l .j) (c .before .loop-test .taken)))
+    (sym (getD-reverse (g .nodes .now) (l .k) (c .before .loop-test .taken)))
 
 same-length : tie.Need-same-length Inv-loop μ-loop
 same-length c =
@@ -79,7 +79,7 @@ put-reversed-spec =
     add-out
     mul-out-2
     slice-write-out
-    add-j
+    add-k
     loop-less
     loop-again
     same-length
