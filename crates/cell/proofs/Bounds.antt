@@ -8,7 +8,7 @@ use borrow.Author.Tests.{eqb-true, leb-true, ltb-false}
 use lib.Dec.{eqb, ltb}
 use lib.ListN.{length, length-append}
 use Rattle.rows.specs.Outcome.{found}
-use Rattle.cell.specs.Types.{allow, spaceNumber, spaceType, spaceNodes, shapeOf, planeNumber, planeType, planeNodes, planeCorners}
+use Rattle.cell.specs.Types.{allow, spaceNumber, spaceType, spaceNodes, shapeOf, planeNodes, planeCorners}
 use Rattle.cell.specs.Faces.{Face, separator, onto, stretches, kept, facesOf, polygonOf}
 use Rattle.cell.specs.Read.{Polygon, Cell, spaceCell, planeCell}
 use Rattle.cell.specs.Claims.{SpaceBounds, SpaceBounded, PlaneBounded}
@@ -18,8 +18,6 @@ use Rattle.cell.specs.declared.types.PlaneType.{PlaneType}
 use Rattle.cell.specs.declared.types.PlaneType.the-variants.{Tri3, Tri6, Tri7, Quad4, Quad8, Quad9, Pgon}
 use Rattle.cell.specs.declared.types.InSpace as S
 use Rattle.cell.specs.declared.types.InSpace.the-variants as s
-use Rattle.cell.specs.declared.types.InPlane as P
-use Rattle.cell.specs.declared.types.InPlane.the-variants as p
 use Rattle.cell.proofs.Answers.{polygons-size, polygons-count, SpaceRead, space-read, PlaneRead, plane-read}
 use Rattle.cell.proofs.Polygon.{length-polygon}
 
@@ -109,21 +107,6 @@ space-number t k e =
   where
     next : (n : ℕ) (k r : S.InSpace) → (t ≡ n → InSpaceAs t k) → InSpaceAs t r → InSpaceAs t (cond (eqb t n) k r)
     next = by-number (InSpaceAs t) t
-
-abbrev InPlaneAs : ℕ → P.InPlane → Type 0
-InPlaneAs t (p.Known k) = t ≡ planeNumber k
-InPlaneAs t p.Unknown = Unit {0}
-
-pub plane-number : (t : ℕ) (k : PlaneType) → planeType t ≡ p.Known k → t ≡ planeNumber k
-unfolding planeType
-plane-number t k e =
-    subst (InPlaneAs t) e
-    (next 5 (p.Known Tri3) _ (λ e. e) (next 6 (p.Known Tri6) _ (λ e. e) (next 7 (p.Known Tri7) _ (λ e. e)
-    (next 8 (p.Known Quad4) _ (λ e. e) (next 9 (p.Known Quad8) _ (λ e. e) (next 10 (p.Known Quad9) _ (λ e. e)
-    (next 11 (p.Known Pgon) _ (λ e. e) tt)))))))
-  where
-    next : (n : ℕ) (k r : P.InPlane) → (t ≡ n → InPlaneAs t k) → InPlaneAs t r → InPlaneAs t (cond (eqb t n) k r)
-    next = by-number (InPlaneAs t) t
 
 -- ---- every type in the plane
 

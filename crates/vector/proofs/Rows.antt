@@ -126,17 +126,6 @@ segs-getD w n xs i h =
     pair-getD (rows w (2 * n) xs) i (omega (arith, rows-length w (2 * n) xs))
     ∙ rw (rows-getD w (2 * n) xs (2 * i) (omega arith), rows-getD w (2 * n) xs (2 * i + 1) (omega arith))
 
--- m segments, then r more
-pub segs-more : (w m r : ℕ) (xs : List Float) → segs w (m + r) xs ≡ segs w m xs ++ segs w r (drop (w * (2 * m)) xs)
-segs-more w m r xs =
-    let e : 2 * (m + r) ≡ 2 * m + 2 * r = omega arith in
-    ap (λ (k : ℕ). pairUp (rows w k xs)) e ∙ ap pairUp (rows-more w (2 * m) (2 * r) xs)
-    ∙ pair-append (rows w (2 * m) xs) (rows w (2 * r) (drop (w * (2 * m)) xs)) m (rows-length w (2 * m) xs)
-
--- m segments depend on the first w * 2m numbers only
-pub segs-same : (w m : ℕ) (xs ys : List Float) → take (w * (2 * m)) xs ≡ take (w * (2 * m)) ys → segs w m xs ≡ segs w m ys
-segs-same w m xs ys e = ap pairUp (rows-same w (2 * m) xs ys e)
-
 -- ---- a segment written after n others
 module _ (w n : ℕ) (xs : List Float) (a b : Vector) (la : length a ≡ w) (lb : length b ≡ w)
     (room : w * (2 * (n + 1)) ≤ length xs) where

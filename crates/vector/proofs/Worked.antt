@@ -6,7 +6,7 @@ use lib.IntN.{pos, negsuc}
 use lib.Ieee.{Float, nan, inf, fin, neg, sub}
 use Rattle.vector.specs.Number.{f0, f1, minusOne}
 use Rattle.vector.specs.Vector.{Vector, along, framed, leastAlignedAxis, lineOf, planeOf, unframed, unit}
-use Rattle.vector.specs.Vector.{normalAlong, normalGiven}
+use Rattle.vector.specs.Vector.{normalAlong}
 use Rattle.vector.specs.Tolerance.{tolerance, small}
 
 -- ---- some numbers and vectors
@@ -86,7 +86,7 @@ plane-infinite : planeOf zeros (inf false ∷ f0 ∷ f0 ∷ []) ≡ unframed
 unfolding unit leastAlignedAxis sub
 plane-infinite = refl
 
-normal-infinite : normalGiven (inf false ∷ f0 ∷ []) ≡ along (nan ∷ f0 ∷ [])
+normal-infinite : unit (inf false ∷ f0 ∷ []) ≡ along (nan ∷ f0 ∷ [])
 unfolding unit
 normal-infinite = refl
 

@@ -161,10 +161,6 @@ deproject f p = plus (plus (f .origin) (scale (at p 0) (f .u))) (scale (at p 1) 
 
 -- ---- a line in the plane
 
--- its normal from a normal
-abbrev pub normalGiven : Vector → Direction
-normalGiven n = unit n
-
 -- the unit of (-b, a), with (a, b) the unit direction
 abbrev pub turned : Direction → Direction
 turned nowhere = nowhere
