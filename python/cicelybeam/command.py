@@ -15,11 +15,11 @@ from .version import VERSION
 
 STATUS = """\
 exit status:
-  0  every cell that the cut reaches was cut, and every edge that was found is drawn
+  0  every cell that the cut reaches was cut, and no area is lost
   1  there is no cut: the file, the cell or the plane was refused, and the message says why
   2  the command line is wrong
-  3  a piece is not drawn, or a cell that the plane passes through lacks an edge (--allow-undrawn accepts
-     both; --allow-touching accepts only edges along which the plane touches a cell without passing through it)
+  3  area is lost: a piece is not drawn, or a cell that the plane passes through lacks an edge (--allow-undrawn
+     accepts it)
   4  cells of a type that is not cut may reach the cut (--allow-uncut accepts it)
 """
 
@@ -93,9 +93,7 @@ def _parser() -> argparse.ArgumentParser:
         command.add_argument("--picture", type=Path, metavar="FILE", help="a picture, .svg, .png or .pdf")
         command.add_argument("--colour", default="type", metavar="BY", help="the picture by type, by cell, or by a cell field")
         command.add_argument("--report", type=Path, metavar="FILE", help="the record as .json, or its cells as .csv")
-        command.add_argument("--allow-undrawn", action="store_true", help="exit status 0 also where a piece is not drawn")
-        command.add_argument("--allow-touching", action="store_true", help=(
-            "exit status 0 also where all that is not drawn is edges of cells that the plane only touches along one edge"))
+        command.add_argument("--allow-undrawn", action="store_true", help="exit status 0 also where area is lost")
         command.add_argument("--allow-uncut", action="store_true", help=(
             "exit status 0 also where the cut may reach cells of types that are not cut"))
         command.add_argument("--quiet", action="store_true", help="print warnings only")
@@ -138,8 +136,8 @@ def _run(given: argparse.Namespace) -> int:
         for warning in cut.record.warnings:
             print(f"cicelybeam: {warning}", file=sys.stderr)
     _write(given, cut)
-    status, why = _status(given, cut)
-    if status:
+    status, reasons = _status(given, cut)
+    for why in reasons:
         print(f"cicelybeam: exit status {status}: {why}", file=sys.stderr)
     return status
 
@@ -206,14 +204,9 @@ def _write(given: argparse.Namespace, cut: PlaneCut | LineCut) -> None:
         draw(cut, given.picture, given.colour)
 
 
-def _status(given: argparse.Namespace, cut: PlaneCut | LineCut) -> tuple[int, str]:
-    """The exit status, and what it says."""
-    record = cut.record
-    if not record.all_drawn and not given.allow_undrawn:
-        if not record.only_touching:
-            return 3, "a piece is not drawn (--allow-undrawn accepts it)"
-        if not given.allow_touching:
-            return 3, "the plane touches cells along edges that bound no area and are not drawn (--allow-touching accepts them)"
-    if not record.all_cut and not given.allow_uncut:
-        return 4, "cells of types that are not cut may reach the cut (--allow-uncut accepts them)"
-    return 0, ""
+def _status(given: argparse.Namespace, cut: PlaneCut | LineCut) -> tuple[int, list[str]]:
+    """The exit status, the lowest where there are several, and every reason for one that is not accepted."""
+    accepted = {3: given.allow_undrawn, 4: given.allow_uncut}
+    reasons = [(status, why) for status, why in cut.record.reasons if not accepted[status]]
+    told = [f"{why} ({'--allow-undrawn' if status == 3 else '--allow-uncut'} accepts it)" for status, why in reasons]
+    return min((status for status, _ in reasons), default=0), told

@@ -11,9 +11,9 @@ from . import place
 from .buffers import Growing
 from .library import MOST_ENTRIES, floats, library, slice_tolerance
 from .mesh import Mesh, of_meshio
-from .place import Sides, Vector
+from .place import ABOVE, BELOW, Sides, Vector
 from .plane import PlaneCut, cut_plane
-from .record import below_own, counted, extent, some, vector
+from .record import below_own, counted, extent, number, some, vector, were
 from .refusal import MeshError, Refused
 from .version import VERSION
 
@@ -62,25 +62,41 @@ class LineRecord:
     def all_cut(self) -> bool:
         return not any(self.not_cut_reached.values()) and not self.dropped
 
+    @property
+    def reasons(self) -> list[tuple[int, str]]:
+        """Every reason for an exit status other than 0, with the status."""
+        found = []
+        missing = sorted({*self.undrawn} - {*self.touching})
+        if missing:
+            found.append((3, f"{number(len(missing), 'cell')} that the line may reach and whose section is not whole{some(missing)}"))
+        if self.without_segment:
+            found.append((3, f"{number(len(self.without_segment), 'cell')} that the line passes through, without a segment{some(self.without_segment)}"))
+        if any(self.not_cut_reached.values()):
+            found.append((4, f"the line may meet cells of types that are not cut: {counted(self.not_cut_reached)}"))
+        found += [(4, f"meshio left cells out while reading: {remark}") for remark in self.dropped]
+        return found
+
     def sentence(self) -> str:
         """The summary, for a methods section."""
+        cells = sum(self.cells_by_type.values())
         start = (
-            f"The mesh's {sum(self.cells_by_type.values())} cells were cut with Cicelybeam {self.version} by the line through "
+            f"The mesh's {number(cells, 'cell')} {were(cells)} cut with Cicelybeam {self.version} by the line through "
             f"{vector(self.origin)} with direction {vector(self.direction)} and tolerance {self.tolerance:.3g}: "
-            f"{self.with_segments} cells have {self.segments} segments of it, of length {self.length:.12g} together, "
-            f"which cover a length of {self.covered:.12g} of the line"
+            f"{number(self.with_segments, 'cell')} {'has' if self.with_segments == 1 else 'have'} {number(self.segments, 'segment')} of it, "
+            f"of length {self.length:.12g} together, covering a length of {self.covered:.12g} of the line"
         )
         missing = set(self.undrawn) - set(self.touching)
         if missing or self.without_segment:
-            start += (f"; {len(missing)} cells that the line may reach have a section that is not whole, and "
-                      f"{len(self.without_segment)} that it passes through have no segment")
+            start += (f"; {number(len(missing), 'cell')} that the line may reach with a section that is not whole, and "
+                      f"{len(self.without_segment)} that it passes through without a segment")
         if any(self.not_cut_reached.values()):
-            start += f"; {counted(self.not_cut_reached)} are of types that are not cut"
+            start += f"; not cut: {counted(self.not_cut_reached)}"
         return start + "."
 
     def as_dict(self) -> dict:
         """The record as plain numbers, lists and words."""
-        return {**asdict(self), "all_drawn": self.all_drawn, "all_cut": self.all_cut, "summary": self.sentence()}
+        return {**asdict(self), "all_drawn": self.all_drawn, "all_cut": self.all_cut,
+                "reasons": [list(reason) for reason in self.reasons], "summary": self.sentence()}
 
     def __str__(self) -> str:
         stretches = ", ".join(f"{a:.6g} to {b:.6g}" for a, b in self.stretches[:8]) + (", ..." if len(self.stretches) > 8 else "")
@@ -91,11 +107,11 @@ class LineRecord:
             ("not cut", counted(self.not_cut)),
             ("line", f"through {vector(self.origin)}, direction {vector(self.direction)}"),
             ("tolerance", f"{self.tolerance:.6g} (the mesh's own: {self.mesh_tolerance:.6g})"),
-            ("segments", f"{self.segments} in {self.with_segments} cells"),
+            ("segments", f"{self.segments} in {number(self.with_segments, 'cell')}"),
             ("length", f"{self.length:.12g}, covering {self.covered:.12g} of the line"),
             ("stretches", f"{len(self.stretches)}{': ' if stretches else ''}{stretches}"),
-            ("not whole", f"{len(self.undrawn)} cells that the line may reach{some(self.undrawn)}"),
-            ("no segment", f"{len(self.without_segment)} cells passed through{some(self.without_segment)}"),
+            ("not whole", f"{number(len(self.undrawn), 'cell')} that the line may reach{some(self.undrawn)}"),
+            ("no segment", f"{number(len(self.without_segment), 'cell')} passed through{some(self.without_segment)}"),
             *(("WARNING", warning) for warning in self.warnings),
         ]
         return "\n".join([*(f"{name:<18}{value}" for name, value in lines), "", self.sentence()])
@@ -139,7 +155,7 @@ def cut_line(
     found = mesh if isinstance(mesh, Mesh) else of_meshio(mesh)
     if not any(map(len, found.blocks)):
         raise MeshError(f"{found.source}: no cell is of a type that is cut; it has {counted(found.not_cut(), 'no cells')}")
-    start, along = place.vector(origin, found.dimension), place.vector(direction, found.dimension)
+    start, along = place.vector(origin, found.dimension, "origin"), place.vector(direction, found.dimension, "direction")
     own = slice_tolerance(found.points)
     tol = place.chosen_tolerance(tolerance, own, found.source)
     if found.dimension == 3:
@@ -147,12 +163,13 @@ def cut_line(
         call, room, normal = library().cicelybeam_line_in_space, 14, frame.normal
     else:
         call, room, normal = library().cicelybeam_plane_cell_by_direction, 6, place.normal_of_line(along)
-    sides = place.sides(found.points, start, normal, tol)
+    near = place.nearest_on_line(start, along, found.centre() or start)
+    sides = place.sides(found.points, near, normal, tol)
     kept = [np.flatnonzero(sides.reached(block)) if leave_out else np.arange(len(block)) for block in found.blocks]
-    segments, owner = _segments(found, kept, call, room, (start, along, tol), progress)
+    segments, owner = _segments(found, kept, call, room, (near, along, tol), progress)
     if found.dimension == 3:
-        section = cut_plane(found, start, frame.normal, tol, leave_out=leave_out)
-        lacking = _lacking_in_space(section, place.sides(found.points, start, frame.v, tol), frame.v, owner, tol)
+        section = cut_plane(found, near, frame.normal, tol, leave_out=leave_out)
+        lacking = _lacking_in_space(section, place.sides(found.points, near, frame.v, tol), frame.v, owner, tol)
     else:
         lacking = [], [], _lacking_in_plane(found, sides, owner)
     lengths = np.linalg.norm(segments[:, 1] - segments[:, 0], axis=1)
@@ -171,9 +188,11 @@ def _segments(
     numbers, owner = Growing(np.float64, 1 << 14), []
     done, total = 0, sum(map(len, kept))
     for block, cells in zip(mesh.blocks, kept):
-        for index in cells.tolist():
-            address, length = block.entry(index)
-            s = call(block.kind.number, address, length, *cut, *numbers.lend(room * min(4 * length, MOST_ENTRIES)))
+        conn, starts = block.handed(cells)
+        base = conn.ctypes.data
+        for index, first, after in zip(cells.tolist(), starts.tolist(), starts[1:].tolist()):
+            length = after - first
+            s = call(block.kind.number, base + 8 * first, length, *cut, *numbers.lend(room * min(4 * length, MOST_ENTRIES)))
             if s.refusal:
                 raise Refused(s.refusal, f"{mesh.source}: {mesh.name(block.first + index)}")
             numbers.used += 2 * mesh.dimension * s.segments
@@ -200,7 +219,7 @@ def _lacking_in_space(
     undrawn = {cell.cell for cell in record.undrawn}.union(
         record.crossed_without_edge, record.crossed_face_without_segment, record.within_tolerance, record.not_finite)
     touching = {cell.cell for cell in record.undrawn if cell.touching}
-    away = place.distances(section.frame.in_space(section.points), section.frame.origin, across)[section.nodes]
+    away = place.distances(section.in_space(), section.frame.origin, across)[section.nodes]
     crossed = np.zeros(len(section), dtype=bool)
     if len(section):
         starts = np.concatenate([[0], section.ends[:-1]])
@@ -211,7 +230,7 @@ def _lacking_in_space(
 
 def _lacking_in_plane(mesh: Mesh, sides: Sides, owner: np.ndarray) -> list[int]:
     """Cells without a segment that have corners on both sides of the line, or all corners within the tolerance of it."""
-    met = [np.flatnonzero(sides.crossed(block) | sides.within_tolerance(block)) + block.first for block in mesh.blocks]
+    met = [np.flatnonzero(np.isin(sides.met(block), (0, ABOVE | BELOW))) + block.first for block in mesh.blocks]
     return np.setdiff1d(np.concatenate(met), owner).tolist()
 
 

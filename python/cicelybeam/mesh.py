@@ -12,13 +12,15 @@ import meshio._mesh
 import numpy as np
 
 from .celltypes import IN_PLANE, IN_SPACE, POLYGON, POLYHEDRON, CellType, dimension
-from .library import FACE_END, floats
+from .library import floats
 from .refusal import MeshError, Refused
 
-# Types that meshio 5.0.0 names and whose dimension its table lacks, so that it fails on files that have them.
-for _name, _dimension in {"wedge12": 3, "wedge15": 3, "hexahedron24": 3, "penta_prism": 3, "hexa_prism": 3,
-                          "pyramid13": 3, "triangle7": 2, "quad6": 2, "pixel": 2}.items():
-    getattr(meshio._mesh, "topological_dimension", {}).setdefault(_name, _dimension)
+# meshio 5.0.0 names types whose dimension its table lacks, so that it fails on files that have them.
+for _name in (*IN_SPACE, *IN_PLANE, "quad6"):
+    getattr(meshio._mesh, "topological_dimension", {}).setdefault(_name, dimension(_name))
+
+
+CHUNK = 1 << 18  # cells looked at in one go, so that what is worked out of them stays small
 
 
 @dataclass
@@ -29,10 +31,6 @@ class Block:
     first: int
     kind: CellType
     nodes: np.ndarray  # one row a cell, as 64-bit whole numbers
-    base: int = field(init=False)
-
-    def __post_init__(self) -> None:
-        self.base = self.nodes.ctypes.data
 
     def __len__(self) -> int:
         return len(self.nodes)
@@ -40,20 +38,31 @@ class Block:
     def corners(self, cells: np.ndarray | slice = slice(None)) -> np.ndarray:
         return self.nodes[cells, : self.kind.corners]
 
-    def every(self, of_node: np.ndarray) -> np.ndarray:
-        """For each cell: whether this holds of all of its corners."""
-        found = of_node[self.nodes[:, 0]]
-        for k in range(1, self.kind.corners):
-            found = found & of_node[self.nodes[:, k]]
+    def all_corners(self) -> np.ndarray:
+        return self.corners().ravel()
+
+    def folded(self, fold: np.ufunc, of_node: np.ndarray, cells: np.ndarray | slice = slice(None)) -> np.ndarray:
+        """For each cell: the bits of its corners, by bitwise and, or by bitwise or."""
+        corners = self.corners(cells)
+        found = np.empty(len(corners), dtype=of_node.dtype)
+        for start in range(0, len(corners), CHUNK):
+            bits = of_node.take(corners[start : start + CHUNK])
+            part = found[start : start + CHUNK]
+            part[:] = bits[:, 0]
+            for k in range(1, bits.shape[1]):
+                fold(part, bits[:, k], out=part)
         return found
 
-    def some(self, of_node: np.ndarray) -> np.ndarray:
-        """For each cell: whether this holds of one of its corners."""
-        return ~self.every(~of_node)
-
-    def entry(self, index: int) -> tuple[int, int]:
-        """The address and number of the nodes of a cell."""
-        return self.base + index * self.nodes.strides[0], self.kind.nodes
+    def handed(self, cells: np.ndarray) -> tuple[np.ndarray, np.ndarray]:
+        """What the library is handed for these cells: the entries of cell after cell, and where each starts, with the end."""
+        if self.kind.number == POLYHEDRON:
+            ended = [(*face, -1) for face in self.kind.faces]
+            places = np.array([k for face in ended for k in face][:-1])
+            rows = self.nodes[np.asarray(cells)[:, None], places]
+            rows[:, places < 0] = -1  # FACE_END, as the bits of a 64-bit whole number
+        else:
+            rows = self.nodes[cells, : self.kind.nodes]
+        return rows.ravel(), np.arange(len(rows) + 1) * rows.shape[1]
 
     def faces(self, index: int) -> list[np.ndarray]:
         row = self.nodes[index]
@@ -70,17 +79,17 @@ class Polyhedra:
     kind: CellType = CellType(POLYHEDRON, 0, 0)
     entries: list[np.ndarray] = field(init=False)
     flat: np.ndarray = field(init=False)  # the corners of cell after cell
-    ends: np.ndarray = field(init=False)  # the number of corners up to and with each cell
+    starts: np.ndarray = field(init=False)  # where those of each cell start, with the end
 
     def __post_init__(self) -> None:
-        end = np.array([FACE_END], dtype=np.uint64)
+        end = np.array([-1], dtype=np.int64)  # FACE_END, as the bits of a 64-bit whole number
         self.entries = []
         for faces in self.cells:
-            parts = [part for face in faces for part in (np.asarray(face).astype(np.uint64), end)]
-            self.entries.append(np.concatenate(parts[:-1]) if parts else np.empty(0, np.uint64))
+            parts = [part for face in faces for part in (np.asarray(face, dtype=np.int64), end)]
+            self.entries.append(np.concatenate(parts[:-1]) if parts else np.empty(0, np.int64))
         corners = [self.corners(k) for k in range(len(self))]
-        self.flat = np.concatenate(corners) if corners else np.empty(0, np.int64)
-        self.ends = np.cumsum([len(c) for c in corners], dtype=np.int64)
+        self.flat = np.concatenate([*corners, np.empty(0, np.int64)])
+        self.starts = np.cumsum([0, *map(len, corners)], dtype=np.int64)
 
     def __len__(self) -> int:
         return len(self.cells)
@@ -89,18 +98,20 @@ class Polyhedra:
         kept = self.faces(index)
         return np.concatenate(kept) if kept else np.empty(0, np.int64)
 
-    def every(self, of_node: np.ndarray) -> np.ndarray:
-        """As for a block; it holds of a cell without corners."""
-        missing = np.concatenate([[0], np.cumsum(~of_node[self.flat])])
-        starts = np.concatenate([[0], self.ends[:-1]])
-        return missing[self.ends] == missing[starts]
+    def all_corners(self) -> np.ndarray:
+        return self.flat
 
-    def some(self, of_node: np.ndarray) -> np.ndarray:
-        return ~self.every(~of_node)
+    def folded(self, fold: np.ufunc, of_node: np.ndarray, cells: np.ndarray | slice = slice(None)) -> np.ndarray:
+        """As for a block; of a cell without corners, all bits by and, none by or."""
+        found = np.full(len(self), fold.identity).astype(of_node.dtype)
+        some = np.diff(self.starts) > 0
+        if some.any():
+            found[some] = fold.reduceat(of_node[self.flat], self.starts[:-1][some])
+        return found[cells]
 
-    def entry(self, index: int) -> tuple[int, int]:
-        found = self.entries[index]
-        return found.ctypes.data, found.size
+    def handed(self, cells: np.ndarray) -> tuple[np.ndarray, np.ndarray]:
+        chosen = [self.entries[k] for k in cells]
+        return np.concatenate([*chosen, np.empty(0, np.int64)]), np.cumsum([0, *map(len, chosen)])
 
     def faces(self, index: int) -> list[np.ndarray]:
         """The faces that are kept: those of three nodes or more."""
@@ -130,6 +141,12 @@ class Mesh:
         """The least and the greatest of each coordinate of its nodes, NaN left out."""
         known = self.points[~np.isnan(self.points).any(axis=1)]
         return [known.min(axis=0).tolist(), known.max(axis=0).tolist()] if len(known) else []
+
+    def centre(self) -> tuple[float, ...] | None:
+        """A place amid the nodes: the median of each coordinate, of a thousand nodes at most, so that a few far away do not matter."""
+        known = self.points[:: 1 + len(self.points) // 1000]
+        known = known[np.isfinite(known).all(axis=1)]
+        return tuple(np.median(known, axis=0).tolist()) if len(known) else None
 
     @property
     def total(self) -> int:

@@ -1,56 +1,73 @@
 """A mesh cut by a plane."""
 from __future__ import annotations
 
-from collections.abc import Callable, Iterator
+from collections.abc import Iterator
 from dataclasses import dataclass
 
 import meshio
 import numpy as np
 
 from . import place
-from .buffers import Growing
-from .coincident import Coincident, find_coincident
-from .library import MOST_ENTRIES, floats, library, slice_tolerance
-from .mesh import Block, Mesh, Polyhedra, of_meshio
-from .place import Frame, Sides
+from .cells import Cutter, Loops, Progress, cells_with_gaps
+from .library import slice_tolerance
+from .mesh import Mesh, of_meshio
+from .netarea import NetArea, net_area
+from .place import ABOVE, BELOW, Frame, Sides, Vector
 from .record import PlaneRecord, counted, plane_record
-from .refusal import MeshError, Refused
-
-Progress = Callable[[int, int], None]  # cells done, and to do in all
-
-COUNTS = ("listed", "in_loops", "flat", "open")
+from .refusal import MeshError
+from .rings import Rings, simple_rings
 
 
-@dataclass
+@dataclass(repr=False)
 class PlaneCut:
     """The polygons of a cut, and the account of every listed edge.
 
-    Points are in the plane, from its origin; `frame.in_space(points)` gives them in space. Polygon k has the points
-    nodes[ends[k - 1]:ends[k]] (from 0 for the first), counter-clockwise.
+    Points are in the plane, from its origin; `in_space()` gives them in space. Polygons are simple rings: ring k has the
+    points nodes[ends[k - 1]:ends[k]] (from 0 for the first), counter-clockwise, or clockwise where it bounds a hole.
+    `shapes()` puts outer rings and holes together.
     """
 
     mesh: Mesh
     frame: Frame
     points: np.ndarray  # x and y of each point
-    nodes: np.ndarray  # points of polygon after polygon
-    ends: np.ndarray  # number of nodes up to and with each polygon
-    polygon_cell: np.ndarray  # the cell of each polygon
-    polygon_area: np.ndarray
+    nodes: np.ndarray  # points of ring after ring
+    ends: np.ndarray  # number of nodes up to and with each ring
+    polygon_cell: np.ndarray  # the cell of each ring
+    polygon_area: np.ndarray  # negative for a hole
+    hole: np.ndarray  # whether a ring bounds a hole of its cell's section
+    outer: np.ndarray  # the ring that a ring is a hole of, or its own number
+    side: np.ndarray  # 0: the plane passes through the ring's cell; 1: the cell lies above and is touched; -1: below
     cells: np.ndarray  # the cells that list an edge
     counts: np.ndarray  # for each of them: listed, in loops, flat, open
     cell_points: np.ndarray  # for each of them: the first of its points, and the one after the last
-    coincident: Coincident
+    near: Frame  # the same plane, from the point of it that is nearest the mesh's middle; cells are cut from there
     record: PlaneRecord
 
     def __len__(self) -> int:
         return len(self.ends)
 
+    def __repr__(self) -> str:
+        return f"<PlaneCut of {self.mesh.source}: {len(self)} rings, area {self.record.area:.12g}>"
+
     def polygon(self, k: int) -> np.ndarray:
-        """The points of polygon k."""
+        """The points of ring k."""
         return self.points[self.nodes[self.ends[k - 1] if k else 0 : self.ends[k]]]
 
     def polygons(self) -> Iterator[np.ndarray]:
         return (self.polygon(k) for k in range(len(self)))
+
+    def shapes(self) -> Iterator[tuple[int, np.ndarray, list[np.ndarray]]]:
+        """For each outer ring: its cell, its points, and those of its holes."""
+        holes: dict[int, list[np.ndarray]] = {}
+        for k in np.flatnonzero(self.hole).tolist():
+            holes.setdefault(int(self.outer[k]), []).append(self.polygon(k))
+        for k in np.flatnonzero(~self.hole).tolist():
+            yield int(self.polygon_cell[k]), self.polygon(k), holes.get(k, [])
+
+    def in_space(self) -> np.ndarray:
+        """The points in space, three numbers each."""
+        offset = self.frame.in_plane(np.array([self.near.origin]))
+        return self.near.in_space(self.points - offset)
 
     def cell_area(self) -> np.ndarray:
         """The area drawn for each of `cells`."""
@@ -63,7 +80,7 @@ class PlaneCut:
         first, after = self.cell_points.T
         if not len(self.cells):
             return np.zeros((0, 2))
-        return np.add.reduceat(self.points, first, axis=0) / (after - first)[:, None]
+        return np.add.reduceat(self.points[: after[-1]], first, axis=0) / (after - first)[:, None]
 
     def undrawn_points(self) -> dict[int, np.ndarray]:
         """For each cell with edges that were not drawn: the points that the cut gives for it."""
@@ -97,109 +114,82 @@ def cut_plane(
     (1.0, True)
     """
     found = mesh if isinstance(mesh, Mesh) else of_meshio(mesh)
-    if found.dimension != 3:
-        raise MeshError(f"{found.source}: a plane cuts cells in space, and this mesh is plane; cut it by a line")
-    if not found.blocks and not found.others:
-        raise MeshError(f"{found.source}: the mesh has no cells")
-    if not any(map(len, found.blocks)):
-        raise MeshError(f"{found.source}: no cell is of a type that is cut in space; it has {counted(found.not_cut())}")
-    frame = place.plane(place.vector(origin, 3), place.vector(normal, 3))
+    _check(found)
+    origin, normal = place.vector(origin, 3, "origin"), place.vector(normal, 3, "normal")
     own = slice_tolerance(found.points)
     tol = place.chosen_tolerance(tolerance, own, found.source)
-    cutter = _Cutter(found, floats(frame.origin), floats(place.vector(normal, 3)), tol)
-    sides = place.sides(found.points, frame.origin, frame.normal, tol)
-    kept = [np.flatnonzero(sides.reached(block)) if leave_out else np.arange(len(block)) for block in found.blocks]
-    cutter.handed_over = sum(map(len, kept))
-    for block, cells in zip(found.blocks, kept):
-        cutter.cut(block, cells, sides, progress)
-    return cutter.result(frame, sides, own)
+    return _Cut(found, origin, normal, tol, own, leave_out, progress).result()
 
 
-class _Cutter:
-    """The calls, and what they wrote."""
+def _check(mesh: Mesh) -> None:
+    if mesh.dimension != 3:
+        raise MeshError(f"{mesh.source}: a plane cuts cells in space, and this mesh is plane; cut it by a line")
+    if not mesh.blocks and not mesh.others:
+        raise MeshError(f"{mesh.source}: the mesh has no cells")
+    if not any(map(len, mesh.blocks)):
+        raise MeshError(f"{mesh.source}: no cell is of a type that is cut in space; it has {counted(mesh.not_cut())}")
 
-    def __init__(self, mesh: Mesh, origin: np.ndarray, normal: np.ndarray, tol: float) -> None:
-        self.mesh, self.origin, self.normal, self.tol = mesh, origin, normal, tol
-        self.numbers = Growing(np.float64, 1 << 14)
-        self.nodes = Growing(np.uint32, 1 << 13)
-        self.ends = Growing(np.uint32, 1 << 12)
-        self.spare = [Growing(t, 6 * MOST_ENTRIES) for t in (np.float64, np.uint32, np.uint32)]
-        self.rows: list[tuple[int, ...]] = []  # cell, counts, first point, points, first node, loops
-        self.handed_over = self.done = 0
-        self.crossed: list[np.ndarray] = []
-        self.no_edge: list[int] = []
-        self.no_segment: list[int] = []
-        coords = mesh.points
-        self.place = (coords.ctypes.data, coords.size, origin.ctypes.data, 3, normal.ctypes.data, 3, tol)
 
-    def cut(self, block: Block | Polyhedra, kept: np.ndarray, sides: Sides, progress: Progress | None) -> None:
-        crossed = sides.crossed(block)
-        self.crossed.append(np.flatnonzero(crossed) + block.first)
-        call, number, numbers, nodes, ends = (
-            library().cicelybeam_plane, block.kind.number, self.numbers, self.nodes, self.ends)
-        for index in kept.tolist():
-            address, length = block.entry(index)
-            needed = 6 * min(4 * length, MOST_ENTRIES)
-            s = call(number, address, length, *self.place, *numbers.lend(needed), *nodes.lend(needed), *ends.lend(needed))
-            if s.refusal:
-                raise Refused(s.refusal, f"{self.mesh.source}: {self.mesh.name(block.first + index)}")
-            if s.listed:
-                self.rows.append((block.first + index, s.listed, s.in_loops, s.flat, s.open,
-                                  numbers.used // 2, s.points, nodes.used, s.loops))
-                numbers.used += 2 * s.points
-                nodes.used += s.nodes
-                ends.used += s.loops
-            if crossed[index]:
-                self.look_for_gaps(block, index, s.listed, sides)
-            self.done += 1
-            if progress:
-                progress(self.done, self.handed_over)
+@dataclass
+class Reached:
+    """The cells of the mesh that were not left out, by what the plane does to them."""
 
-    def look_for_gaps(self, block: Block | Polyhedra, index: int, listed: int, sides: Sides) -> None:
-        """Notes a cell that the plane passes through where it lists no edge or a face has no segment.
+    handed_over: int
+    through: np.ndarray  # cells with a corner above the tolerance and one below its negative
+    above: np.ndarray  # cells with corners above and none below
+    within: np.ndarray  # cells with all corners within the tolerance of the plane
+    not_finite: np.ndarray  # cells with a corner coordinate that is NaN or infinite
+    curved: int  # cells with mid-side nodes
+    no_edge: np.ndarray  # cells that the plane passes through and that list no edge
+    no_segment: np.ndarray  # cells that list edges, with a face that has corners on both sides and no segment
 
-        The library tells the latter of each face, handed over as a polyhedron of one face. A face of under three different
-        nodes, as a brick collapsed to a wedge has, is a line and bounds nothing.
-        """
-        if not listed:
-            self.no_edge.append(block.first + index)
-            return
-        for face in block.faces(index):
-            crossed = sides.above[face].any() and sides.below[face].any()
-            if crossed and not self.edges_of_face(face) and len(set(face.tolist())) > 2:
-                self.no_segment.append(block.first + index)
-                return
 
-    def edges_of_face(self, face: np.ndarray) -> int:
-        lent = [part for buffer in self.spare for part in buffer.lend(1)]
-        return library().cicelybeam_plane(18, face.ctypes.data, face.size, *self.place, *lent).listed
+class _Cut:
+    """The calls for one plane, and what is made of their answers."""
 
-    def result(self, frame: Frame, sides: Sides, own: float) -> PlaneCut:
-        rows = np.array(self.rows, dtype=np.int64).reshape(-1, 9)
-        points = self.numbers.written().reshape(-1, 2)
-        loops = rows[:, 8]
-        # the library counts nodes and ends from the cell's own first
-        ends = self.ends.written() + np.repeat(rows[:, 7], loops)
-        lengths = np.diff(ends, prepend=0)
-        nodes = self.nodes.written() + np.repeat(np.repeat(rows[:, 5], loops), lengths)
-        areas = polygon_areas(points, nodes, ends)
-        cells = np.repeat(rows[:, 0], loops)
-        coincident = find_coincident(points, nodes, ends, areas, max(own, self.tol))
-        cut = PlaneCut(self.mesh, frame, points, nodes, ends, cells, areas, rows[:, 0], rows[:, 1:5],
-                       np.stack([rows[:, 5], rows[:, 5] + rows[:, 6]], axis=1), coincident, None)  # type: ignore
-        cut.record = plane_record(cut, sides, self.tol, own, self.handed_over,
-                                  np.concatenate(self.crossed), self.no_edge, self.no_segment)
+    def __init__(self, mesh: Mesh, origin: Vector, normal: Vector, tol: float, own: float,
+                 leave_out: bool, progress: Progress | None) -> None:
+        self.mesh, self.tol, self.own, self.leave_out, self.progress = mesh, tol, own, leave_out, progress
+        self.frame = place.plane(origin, normal)
+        self.near = Frame(place.nearest_in_plane(origin, normal, mesh.centre() or origin),
+                          self.frame.normal, self.frame.u, self.frame.v)
+        self.sides = place.sides(mesh.points, self.near.origin, self.near.normal, tol)
+        self.cutter = Cutter(mesh, self.near.origin, normal, tol)
+
+    def result(self) -> PlaneCut:
+        reached = self._reached()
+        loops = self.cutter.loops()
+        rings = simple_rings(loops)
+        side = np.where(np.isin(rings.cell, reached.above), 1, -1).astype(np.int8)
+        side[np.isin(rings.cell, reached.through)] = 0
+        net = net_area(rings, side, max(self.own, self.tol))
+        offset = self.frame.in_plane(np.array([self.near.origin]))
+        cut = PlaneCut(self.mesh, self.frame, rings.points + offset, rings.nodes, rings.ends, rings.cell, rings.area, rings.hole,
+                       rings.outer, side, loops.cells, loops.counts, loops.cell_points, self.near, None)  # type: ignore[arg-type]
+        cut.record = plane_record(cut, self.sides, self.tol, self.own, reached, rings, net)
         return cut
 
-
-def polygon_areas(points: np.ndarray, nodes: np.ndarray, ends: np.ndarray) -> np.ndarray:
-    """The area of each polygon, worked out from its first point so that a distant origin costs no digits."""
-    if not len(ends):
-        return np.zeros(0)
-    starts = np.concatenate([[0], ends[:-1]])
-    lengths = ends - starts
-    following = np.arange(1, len(nodes) + 1)
-    following[ends - 1] = starts
-    corner = points[nodes] - np.repeat(points[nodes[starts]], lengths, axis=0)
-    after = corner[following]
-    return 0.5 * np.add.reduceat(corner[:, 0] * after[:, 1] - after[:, 0] * corner[:, 1], starts)
+    def _reached(self) -> Reached:
+        """Cuts the cells that may have a segment."""
+        finite = np.isfinite(self.mesh.points).all(axis=1)
+        chosen = [np.flatnonzero(self.sides.reached(block)) for block in self.mesh.blocks]
+        handed = chosen if self.leave_out else [np.arange(len(block)) for block in self.mesh.blocks]
+        total, done, curved = sum(map(len, handed)), 0, 0
+        found: dict[str, list[np.ndarray]] = {name: [] for name in ("through", "above", "within", "not_finite", "no_edge", "no_segment")}
+        for block, kept, cells in zip(self.mesh.blocks, chosen, handed):
+            step = self.progress and (lambda k, done=done: self.progress(done + k, total))
+            listed = self.cutter.cut(block, cells, step)["listed"][np.searchsorted(cells, kept)]
+            done += len(cells)
+            curved += len(kept) if block.kind.curved else 0
+            met = self.sides.met(block, kept)
+            through = met == ABOVE | BELOW
+            edges = through & (listed > 0)
+            parts = {
+                "through": kept[through], "above": kept[met == ABOVE], "within": kept[met == 0],
+                "not_finite": kept[~block.folded(np.logical_and, finite, kept)] if not finite.all() else kept[:0],
+                "no_edge": kept[through & (listed == 0)],
+                "no_segment": cells_with_gaps(self.cutter, block, kept[edges], listed[edges], self.sides),
+            }
+            for name, part in parts.items():
+                found[name].append(part + block.first)
+        return Reached(total, curved=curved, **{name: np.concatenate(parts) for name, parts in found.items()})

@@ -14,15 +14,16 @@ settings.load_profile("short")
 CUBE = np.array([[0, 0, 0], [1, 0, 0], [1, 1, 0], [0, 1, 0], [0, 0, 1], [1, 0, 1], [1, 1, 1], [0, 1, 1]], dtype=float)
 TETRAHEDRA = [[0, 1, 2, 6], [0, 2, 3, 6], [0, 3, 7, 6], [0, 7, 4, 6], [0, 4, 5, 6], [0, 5, 1, 6]]
 WEDGES = [[0, 1, 2, 4, 5, 6], [0, 2, 3, 4, 6, 7]]
+PYRAMIDS = [[0, 1, 2, 3, 6], [0, 4, 5, 1, 6], [0, 3, 7, 4, 6]]  # over the three sides of a brick that do not have its corner 6
 
 
 def box(n: int, kind: str = "hexahedron", size=(1.0, 1.0, 1.0)) -> meshio.Mesh:
-    """The box from (0, 0, 0) to size as n x n x n bricks, each cut up into wedges or tetrahedra where asked."""
+    """The box from (0, 0, 0) to size as n x n x n bricks, each cut up into wedges, tetrahedra or pyramids where asked."""
     steps = np.linspace(0, 1, n + 1)
     points = np.stack(np.meshgrid(steps, steps, steps, indexing="ij"), -1).reshape(-1, 3) * size
     i, j, k = (a.ravel() for a in np.meshgrid(*3 * [np.arange(n)], indexing="ij"))
     bricks = np.stack([((i + a) * (n + 1) + j + b) * (n + 1) + k + c for a, b, c in CUBE.astype(int)], -1)
-    parts = {"hexahedron": [list(range(8))], "wedge": WEDGES, "tetra": TETRAHEDRA}[kind]
+    parts = {"hexahedron": [list(range(8))], "wedge": WEDGES, "tetra": TETRAHEDRA, "pyramid": PYRAMIDS}[kind]
     cells = np.concatenate([bricks[:, part] for part in parts])
     return meshio.Mesh(points, [(kind, np.ascontiguousarray(cells))])
 

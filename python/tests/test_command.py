@@ -94,16 +94,14 @@ def test_polygons_by_meshio(tmp_path, suffix):
 def test_status_of_what_is_not_drawn(path):
     assert run("plane", path, *PLANE, "--tolerance", 0) == 3
     assert run("plane", path, *PLANE, "--tolerance", 0, "--allow-undrawn") == 0
-    assert run("plane", path, *PLANE, "--tolerance", 0, "--allow-touching") == 3
-    assert run("plane", path, *ALONG) == 3
-    assert run("plane", path, *ALONG, "--allow-touching") == 0
+    assert run("plane", path, *ALONG) == 0
 
 
 def test_status_is_explained(path, capsys):
-    run("plane", path, *ALONG, "--quiet")
-    assert "exit status 3: the plane touches cells" in capsys.readouterr().err
+    """Every reason, not the first alone."""
     run("plane", path, *PLANE, "--tolerance", 0, "--quiet")
-    assert "exit status 3: a piece is not drawn" in capsys.readouterr().err
+    said = capsys.readouterr().err
+    assert "exit status 3: " in said and "without an edge" in said and "has no segment" in said
 
 
 def test_line_with_status_3(path, capsys):
@@ -121,13 +119,6 @@ def test_reader_that_stops_early(path, tmp_path):
     assert (done.returncode, done.stderr) == (0, "") and json.loads(report.read_text())["all_drawn"]
 
 
-def test_status_of_types_that_are_not_cut(tmp_path):
-    mesh = box(1)
-    meshio.Mesh(mesh.points, [*mesh.cells, ("pyramid", np.array([[0, 1, 2, 3, 6]]))]).write(tmp_path / "a.vtu")
-    assert run("plane", tmp_path / "a.vtu", *ALONG) == 4
-    assert run("plane", tmp_path / "a.vtu", *ALONG, "--allow-uncut") == 0
-
-
 def test_voxels_that_meshio_drops_are_told(tmp_path, capsys):
     """meshio leaves out VTK's voxels with a remark only; the remark reaches the user and the status."""
     def array(kind, name, values, parts=1):
@@ -142,6 +133,7 @@ def test_voxels_that_meshio_drops_are_told(tmp_path, capsys):
     assert run("plane", tmp_path / "a.vtu", *ALONG) == 4
     said = capsys.readouterr().out
     assert "cannot handle (type 11)" in said and "meshio left out" in said
+    assert run("plane", tmp_path / "a.vtu", *ALONG, "--allow-uncut") == 0
 
 
 def test_line(path, tmp_path, capsys):
@@ -188,7 +180,6 @@ def test_truncated_files(path, tmp_path, capsys):
 
 @pytest.mark.parametrize("cells,words", [
     ([("triangle", [[0, 1, 2]])], "no cell is of a type that is cut in space; it has 1 triangle"),
-    ([("pyramid", [[0, 1, 2, 3, 6]])], "1 pyramid"),
     ([("tetra", [[0, 1, 2, 77]])], "cell 0 \\(tetra\\): the node number of a corner is no row"),
 ])
 def test_meshes_of_no_use(tmp_path, capsys, cells, words):

@@ -1,0 +1,212 @@
+"""Loops cut into simple rings, and which of them bound holes.
+
+A loop may pass through a point twice. It is cut there. No listed edge is in a loop twice (`unrepeated`, docs/CLAIMS.md),
+so each part has at least three different points. Over all rings of one cell the even-odd rule decides: a ring inside an odd
+number of others bounds a hole, and rings side by side add up. Rings that cross away from their points, as a badly twisted
+brick can have, are cut up by shapely at the crossings, which become new points.
+"""
+from __future__ import annotations
+
+from dataclasses import dataclass
+
+import numpy as np
+from shapely.geometry import LinearRing, Polygon
+from shapely.ops import polygonize, unary_union
+
+from .cells import Loops
+
+Row = list[int]  # the points of a ring, by number
+NEARLY = 1e-9  # of an area: what two rings may share by rounding without crossing
+
+
+@dataclass
+class Rings:
+    """Simple rings, cell by cell, in the form of loops. Holes run clockwise and have negative areas."""
+
+    points: np.ndarray  # those of the loops, then those where rings cross
+    nodes: np.ndarray
+    ends: np.ndarray
+    cell: np.ndarray
+    area: np.ndarray
+    hole: np.ndarray
+    outer: np.ndarray  # the number of the ring that a ring is a hole of, or its own
+    self_touching: int  # loops that pass through a point twice
+    crossing: int  # cells with rings that cross
+
+
+def simple_rings(loops: Loops) -> Rings:
+    special = _special_cells(loops)
+    ordinary = ~np.isin(loops.cell, special)
+    lengths = np.diff(loops.ends, prepend=0)
+    rings = Rings(loops.points, loops.nodes[np.repeat(ordinary, lengths)], np.cumsum(lengths[ordinary]), loops.cell[ordinary],
+                  np.zeros(0), np.zeros(ordinary.sum(), dtype=bool), np.arange(ordinary.sum()), 0, 0)
+    if len(special):
+        _add_special(rings, loops, np.flatnonzero(~ordinary))
+    rings.area = signed_areas(rings.points, rings.nodes, rings.ends)
+    return rings
+
+
+def signed_areas(points: np.ndarray, nodes: np.ndarray, ends: np.ndarray) -> np.ndarray:
+    """The area of each ring, negative where it is clockwise, from its first point so that a distant origin costs no digits."""
+    if not len(ends):
+        return np.zeros(0)
+    starts, corner, after = _from_first(points, nodes, ends)
+    return 0.5 * np.add.reduceat(corner[:, 0] * after[:, 1] - after[:, 0] * corner[:, 1], starts)
+
+
+def _from_first(points: np.ndarray, nodes: np.ndarray, ends: np.ndarray) -> tuple[np.ndarray, np.ndarray, np.ndarray]:
+    """Where each ring starts, each corner from its ring's first, and the corner that follows it."""
+    starts = np.concatenate([[0], ends[:-1]])
+    following = np.arange(1, len(nodes) + 1)
+    following[ends - 1] = starts
+    corner = points[nodes] - np.repeat(points[nodes[starts]], ends - starts, axis=0)
+    return starts, corner, corner[following]
+
+
+def _special_cells(loops: Loops) -> np.ndarray:
+    """Cells with several loops, with a point that loops pass through twice, or with a loop that may cross itself."""
+    several = loops.cell[1:][loops.cell[1:] == loops.cell[:-1]]
+    lengths = np.diff(loops.ends, prepend=0)
+    twice = np.bincount(loops.nodes, minlength=1)[loops.nodes] > 1
+    found = [several, np.repeat(loops.cell, lengths)[twice]]
+    if len(loops.ends):
+        bent = np.flatnonzero(~_convex(loops))
+        found.append(loops.cell[[k for k in bent if not Polygon(loops.points[_row(loops, k)]).is_valid]])
+    return np.unique(np.concatenate(found))
+
+
+def _convex(loops: Loops) -> np.ndarray:
+    """For each loop: whether it turns left all around, but for rounding, and goes around once; then it cannot cross itself."""
+    starts, corner, after = _from_first(loops.points, loops.nodes, loops.ends)
+    lengths = np.diff(loops.ends, prepend=0)
+    step = after - corner
+    following = np.arange(1, len(step) + 1)
+    following[loops.ends - 1] = starts
+    turn = step[:, 0] * step[following, 1] - step[following, 0] * step[:, 1]
+    size = np.repeat(np.maximum.reduceat(np.abs(corner).max(axis=1), starts), lengths)
+    left = np.minimum.reduceat(turn + 1e-12 * size**2, starts) >= 0
+    upward = step[:, 0] > 0
+    around = np.add.reduceat((upward != upward[following]).astype(int), starts)
+    return left & (around <= 2)
+
+
+def _row(loops: Loops, k: int) -> np.ndarray:
+    return loops.nodes[loops.ends[k - 1] if k else 0 : loops.ends[k]]
+
+
+def _add_special(rings: Rings, loops: Loops, chosen: np.ndarray) -> None:
+    """Adds the rings of these loops, all loops of their cells, and puts all rings in the order of cells."""
+    rows: list[Row] = []
+    cells: list[int] = []
+    outer: list[int] = []
+    new: list[tuple[float, float]] = []
+    owners, first = np.unique(loops.cell[chosen], return_index=True)
+    for cell, own in zip(owners.tolist(), np.split(chosen, first[1:])):
+        found: list[Row] = []
+        for k in own:
+            parts = cut_at_repeated_points(_row(loops, k).tolist())
+            rings.self_touching += len(parts) > 1
+            found += parts
+        found, holes_of, crossed = _even_odd(found, loops.points, new)
+        rings.crossing += crossed
+        outer += [len(rows) + k for k in holes_of]
+        rows += found
+        cells += [cell] * len(found)
+    _merge(rings, rows, cells, outer)
+    rings.points = np.concatenate([loops.points, np.array(new).reshape(-1, 2)])
+
+
+def _merge(rings: Rings, rows: list[Row], cells: list[int], outer: list[int]) -> None:
+    before = len(rings.ends)
+    lengths = np.concatenate([np.diff(rings.ends, prepend=0), np.array([len(row) for row in rows], dtype=np.int64)])
+    cell = np.concatenate([rings.cell, np.array(cells, dtype=np.int64)])
+    all_outer = np.concatenate([rings.outer, before + np.array(outer, dtype=np.int64)])
+    nodes = np.concatenate([rings.nodes, np.array([k for row in rows for k in row], dtype=np.int64)])
+    order = np.argsort(cell, kind="stable")
+    place = np.empty_like(order)
+    place[order] = np.arange(len(order))
+    by_ring = np.argsort(np.repeat(place, lengths), kind="stable")
+    rings.nodes, rings.ends, rings.cell = nodes[by_ring], np.cumsum(lengths[order]), cell[order]
+    rings.outer = place[all_outer[order]]
+    rings.hole = rings.outer != np.arange(len(order))
+
+
+def cut_at_repeated_points(row: Row) -> list[Row]:
+    """
+    >>> cut_at_repeated_points([0, 1, 2, 3, 1, 4])
+    [[1, 2, 3], [0, 1, 4]]
+    """
+    rings: list[Row] = []
+    walked: Row = []
+    place: dict[int, int] = {}
+    for point in row:
+        if point in place:
+            start = place[point]
+            rings.append(walked[start:])
+            for left in walked[start + 1 :]:
+                del place[left]
+            del walked[start + 1 :]
+        else:
+            place[point] = len(walked)
+            walked.append(point)
+    return [*rings, walked]
+
+
+def _even_odd(rows: list[Row], points: np.ndarray, new: list[tuple[float, float]]) -> tuple[list[Row], list[int], bool]:
+    """The rings of one cell, outer ones counter-clockwise and holes clockwise; for each the ring that it is a hole of, or
+    itself; and whether rings cross, so that they had to be cut up."""
+    shapes = [Polygon(points[row]) for row in rows]
+    crossed = _cross(shapes)
+    if crossed:
+        rows = _cut_at_crossings(rows, points, new)
+        known = np.concatenate([points, np.array(new).reshape(-1, 2)])
+        shapes = [Polygon(known[row]) for row in rows]
+    inner = [shape.representative_point() for shape in shapes]
+    outer = []
+    for k, point in enumerate(inner):
+        around = [j for j, shape in enumerate(shapes) if (shape.area, j) > (shapes[k].area, k) and shape.contains(point)]
+        outer.append(min(around, key=lambda j: shapes[j].area) if len(around) % 2 else k)
+    for k, shape in enumerate(shapes):
+        if shape.exterior.is_ccw == (outer[k] != k):
+            rows[k] = rows[k][::-1]
+    return rows, outer, crossed
+
+
+def _cross(shapes: list[Polygon]) -> bool:
+    """Whether a ring crosses itself, or two rings cross: they share an area that is that of neither."""
+    if not all(shape.is_valid for shape in shapes):
+        return True
+    for k, one in enumerate(shapes):
+        for other in shapes[:k]:
+            shared, least = one.intersection(other).area, min(one.area, other.area)
+            if NEARLY * least < shared < (1 - NEARLY) * least:
+                return True
+    return False
+
+
+def _cut_at_crossings(rows: list[Row], points: np.ndarray, new: list[tuple[float, float]]) -> list[Row]:
+    """The rings around the region that is inside an odd number of rings. Points that are not known yet are added to `new`."""
+    lines = [LinearRing(points[row]) for row in rows]
+    edges = [(points[row], points[np.roll(row, -1)]) for row in rows]
+    parts = [part for part in polygonize(unary_union(lines)) if _inside(part.representative_point(), edges)]
+    region = unary_union(parts)
+    number = {tuple(points[k]): k for row in rows for k in row}
+    found: list[Row] = []
+    for shape in getattr(region, "geoms", [region]):
+        for ring in (shape.exterior, *shape.interiors):
+            for xy in ring.coords[:-1]:
+                if xy not in number:
+                    number[xy] = len(points) + len(new)
+                    new.append(xy)
+            found.append([number[xy] for xy in ring.coords[:-1]])
+    return [part for row in found for part in cut_at_repeated_points(row)]
+
+
+def _inside(point, edges: list[tuple[np.ndarray, np.ndarray]]) -> bool:
+    """Whether a ray to the right of the point crosses an odd number of edges."""
+    crossings = 0
+    for a, b in edges:
+        spans = (a[:, 1] > point.y) != (b[:, 1] > point.y)
+        a, b = a[spans], b[spans]
+        crossings += int((a[:, 0] + (point.y - a[:, 1]) / (b[:, 1] - a[:, 1]) * (b[:, 0] - a[:, 0]) > point.x).sum())
+    return crossings % 2 == 1
