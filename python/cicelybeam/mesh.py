@@ -12,6 +12,7 @@ import meshio._mesh
 import numpy as np
 
 from .celltypes import IN_PLANE, IN_SPACE, POLYGON, POLYHEDRON, CellType, dimension
+from .groups import find_groups
 from .library import floats
 from .refusal import MeshError, Refused
 
@@ -130,7 +131,12 @@ class Mesh:
     blocks: list[Block | Polyhedra]
     others: list[tuple[str, int, int, np.ndarray | None]]  # type, dimension, number of cells, nodes
     remarks: list[str] = field(default_factory=list)
-    fields: dict[str, np.ndarray] = field(default_factory=dict)  # of all cells, one number each
+    fields: dict[str, np.ndarray] = field(default_factory=dict)  # of all cells, one number each or a row of numbers
+    point_fields: dict[str, np.ndarray] = field(default_factory=dict)  # of all nodes, likewise
+    group: np.ndarray | None = None  # the number of each cell's group, where the file has groups
+    groups: dict[int, str] = field(default_factory=dict)  # the names of groups, by number
+    other_first: list[int] = field(default_factory=list)  # the number of the first cell of each of `others`
+    stamp: tuple[int, int] | None = None  # time and size of the file when it was read
 
     @property
     def dimension(self) -> int:
@@ -185,6 +191,10 @@ class Mesh:
         block = self.block_of(cell)
         return self.points[block.corners(cell - block.first)].mean(axis=0)
 
+    def group_of(self, cells: np.ndarray) -> np.ndarray | None:
+        """The number of the group of each of these cells, or None where the file has no groups; `groups` has the names."""
+        return None if self.group is None else self.group[cells]
+
     def type_of(self, cells: np.ndarray) -> np.ndarray:
         """meshio's type of each of these cells."""
         found = np.full(len(cells), "", dtype=object)
@@ -230,6 +240,8 @@ def of_meshio(found: meshio.Mesh, source: str = "mesh") -> Mesh:
         _add(mesh, block.type, block.data, first)
         first += len(block.data)
     mesh.fields = _fields(found, first)
+    mesh.point_fields = {name: values for name, values in _floats(found.point_data).items() if len(values) == len(points)}
+    mesh.group, mesh.groups = find_groups(found, mesh.fields, mesh.dimension, first)
     return mesh
 
 
@@ -253,6 +265,7 @@ def _add(mesh: Mesh, name: str, data: object, first: int) -> None:
     if mesh.dimension == 2 and name.startswith("polygon") and nodes.ndim == 2:
         kind = CellType(POLYGON, nodes.shape[1], nodes.shape[1])
     if kind is None:
+        mesh.other_first.append(first)
         mesh.others.append((name, dimension(name), len(nodes), nodes if nodes.ndim == 2 else None))
         return
     if nodes.ndim != 2 or nodes.shape[1] < kind.nodes or nodes.dtype.kind not in "iu":
@@ -268,12 +281,18 @@ def _add(mesh: Mesh, name: str, data: object, first: int) -> None:
 
 
 def _fields(found: meshio.Mesh, total: int) -> dict[str, np.ndarray]:
-    """The fields with one number a cell."""
+    """The fields with one number a cell, or a row of numbers."""
     fields = {}
     for name, parts in found.cell_data.items():
         parts = [np.asarray(part) for part in parts]
-        if parts and all(part.ndim == 1 and part.dtype.kind in "iuf" for part in parts):
+        if parts and all(part.ndim in (1, 2) and part.dtype.kind in "iuf" and part.shape[1:] == parts[0].shape[1:] for part in parts):
             values = np.concatenate(parts)
             if len(values) == total:
                 fields[name] = values
     return fields
+
+
+def _floats(data: dict[str, object]) -> dict[str, np.ndarray]:
+    """The fields of floats, one number or a row of numbers each; whole numbers are marks, which nothing lies between."""
+    found = {name: np.asarray(values) for name, values in (data or {}).items()}
+    return {name: values for name, values in found.items() if values.dtype.kind == "f" and values.ndim in (1, 2)}

@@ -114,7 +114,7 @@ def test_reader_that_stops_early(path, tmp_path):
     """The files are written all the same, and no trace is printed."""
     program = Path(__file__).resolve().parents[1] / "bin" / "cicelybeam"
     report = tmp_path / "a.json"
-    command = f"{sys.executable} {program} plane {path} {' '.join(PLANE)} --report {report} | true"
+    command = f"{program} plane {path} {' '.join(PLANE)} --report {report} | true"
     done = subprocess.run(["bash", "-c", f"set -o pipefail; {command}"], capture_output=True, text=True)
     assert (done.returncode, done.stderr) == (0, "") and json.loads(report.read_text())["all_drawn"]
 
@@ -231,12 +231,12 @@ def test_help(command, capsys):
 
 def test_as_a_program(path):
     program = Path(__file__).resolve().parents[1] / "bin" / "cicelybeam"
-    done = subprocess.run([sys.executable, program, "plane", path, *PLANE], capture_output=True, text=True)
+    done = subprocess.run([program, "plane", path, *PLANE], capture_output=True, text=True)
     assert done.returncode == 0 and "polygons" in done.stdout and done.stderr == ""
 
 
 def test_library_that_is_not_there(path, tmp_path):
     program = Path(__file__).resolve().parents[1] / "bin" / "cicelybeam"
-    done = subprocess.run([sys.executable, program, "plane", path, *PLANE], capture_output=True, text=True,
+    done = subprocess.run([program, "plane", path, *PLANE], capture_output=True, text=True,
                           env={"CICELYBEAM_LIBRARY": str(tmp_path / "none.so"), "PATH": "/usr/bin"})
     assert done.returncode == 1 and "run python/build" in done.stderr
