@@ -6,6 +6,7 @@ The rest goes through shapely, so that sides that do not match are right too.
 """
 from __future__ import annotations
 
+import warnings
 from collections.abc import Callable, Iterable
 from dataclasses import dataclass
 
@@ -46,11 +47,11 @@ def _repeated(rings: Rings, side: np.ndarray, touched: np.ndarray) -> float:
         return 0.0
     chosen = np.concatenate([above, below])
     union = unary_union([shape for _, shape in ring_shapes(rings, chosen)])
-    beneath = _over(union, [shape for _, shape in ring_shapes(rings, _near(rings, through, union.bounds))])
+    beneath = _over(union, [shape for _, shape in ring_shapes(rings, near_bounds(rings, through, union.bounds))])
     return float(rings.area[chosen].sum()) - union.area + beneath
 
 
-def _near(rings: Rings, chosen: np.ndarray, bounds: tuple[float, float, float, float]) -> np.ndarray:
+def near_bounds(rings: Rings, chosen: np.ndarray, bounds: tuple[float, float, float, float]) -> np.ndarray:
     """Of these rings, those with a corner's x and y range that reaches into the bounds."""
     if not len(chosen):
         return chosen
@@ -68,7 +69,9 @@ def _over(union: BaseGeometry, shapes: list[BaseGeometry]) -> float:
 
 def neighbours(shapes: list[BaseGeometry]) -> Callable[[BaseGeometry], list[BaseGeometry]]:
     """A function that gives those of these shapes that may meet a shape."""
-    tree = STRtree(shapes)
+    with warnings.catch_warnings():
+        warnings.simplefilter("ignore")  # shapely 1.8 warns that queries give numbers from 2.0 on
+        tree = STRtree(shapes)
     return lambda shape: [found if isinstance(found, BaseGeometry) else shapes[found] for found in tree.query(shape)]  # shapely 1, 2
 
 

@@ -9,7 +9,9 @@ import numpy as np
 
 from . import place
 from .cells import Cutter, Loops, Progress, cells_with_gaps
+from .jumps import Jumps, find_jumps
 from .library import slice_tolerance
+from .lost import Lost, lost_area
 from .mesh import Mesh, of_meshio
 from .netarea import NetArea, net_area
 from .place import ABOVE, BELOW, Frame, Sides, Vector
@@ -144,13 +146,24 @@ class Reached:
     no_segment: np.ndarray  # cells that list edges, with a face that has corners on both sides and no segment
 
 
+@dataclass
+class Findings:
+    """What was made of the answers, for the record."""
+
+    reached: Reached
+    rings: Rings
+    net: NetArea
+    lost: Lost
+    jumps: Jumps
+
+
 class _Cut:
     """The calls for one plane, and what is made of their answers."""
 
     def __init__(self, mesh: Mesh, origin: Vector, normal: Vector, tol: float, own: float,
                  leave_out: bool, progress: Progress | None) -> None:
         self.mesh, self.tol, self.own, self.leave_out, self.progress = mesh, tol, own, leave_out, progress
-        self.frame = place.plane(origin, normal)
+        self.frame, self.normal = place.plane(origin, normal), normal
         self.near = Frame(place.nearest_in_plane(origin, normal, mesh.centre() or origin),
                           self.frame.normal, self.frame.u, self.frame.v)
         self.sides = place.sides(mesh.points, self.near.origin, self.near.normal, tol)
@@ -163,11 +176,20 @@ class _Cut:
         side = np.where(np.isin(rings.cell, reached.above), 1, -1).astype(np.int8)
         side[np.isin(rings.cell, reached.through)] = 0
         net = net_area(rings, side, max(self.own, self.tol))
+        lost = self._lost(reached, loops, rings)
+        jumps = find_jumps(self.mesh, self.near, self.sides, reached.through)
         offset = self.frame.in_plane(np.array([self.near.origin]))
         cut = PlaneCut(self.mesh, self.frame, rings.points + offset, rings.nodes, rings.ends, rings.cell, rings.area, rings.hole,
                        rings.outer, side, loops.cells, loops.counts, loops.cell_points, self.near, None)  # type: ignore[arg-type]
-        cut.record = plane_record(cut, self.sides, self.tol, self.own, reached, rings, net)
+        cut.record = plane_record(cut, self.sides, self.tol, self.own, Findings(reached, rings, net, lost, jumps))
         return cut
+
+    def _lost(self, reached: Reached, loops: Loops, rings: Rings) -> Lost:
+        """Looks at every cell where something was not drawn."""
+        undrawn = loops.cells[(loops.counts[:, 2:] > 0).any(axis=1)]
+        doubtful = np.unique(np.concatenate([undrawn, reached.no_edge, reached.no_segment, reached.within]))
+        return lost_area(self.mesh, self.near, self.normal, max(self.own, self.tol), np.setdiff1d(doubtful, reached.not_finite),
+                         reached.within, loops, rings)
 
     def _reached(self) -> Reached:
         """Cuts the cells that may have a segment."""

@@ -1,6 +1,7 @@
 """What a cut found and what it did not draw, to be printed and kept."""
 from __future__ import annotations
 
+from collections import Counter
 from dataclasses import asdict, dataclass, field
 from typing import TYPE_CHECKING
 
@@ -10,16 +11,15 @@ from .place import Sides, distances
 from .version import VERSION
 
 if TYPE_CHECKING:
-    from .netarea import NetArea
-    from .plane import PlaneCut, Reached
-    from .rings import Rings
+    from .plane import Findings, PlaneCut, Reached
 
-TOUCHING, LOST = "touching", "area lost"  # why edges of a cell are not drawn
+TOUCHING, LOST = "touching", "area lost"  # why something of a cell is not drawn
+JUMP = 1e-9  # of the area: a jump that is told
 
 
 @dataclass
 class UndrawnCell:
-    """A cell with listed edges that were not drawn, and the points in space that the cut gives for it.
+    """A cell where something was not drawn, and the points in space that the cut gives for it, or its middle where it gives none.
 
     The reason is `touching` where no area is lost: the plane touches the cell, along an edge, along a face that other cells
     draw, or in a piece not wider than the tolerance. Else it is `area lost`, with an estimate of how much.
@@ -32,6 +32,7 @@ class UndrawnCell:
     flat: int
     open: int
     reason: str
+    what: str  # was not drawn, in words
     lost_area: float
     points: list[list[float]]
 
@@ -72,11 +73,13 @@ class PlaneRecord:
     doubled_polygons: int  # of cells that the plane passes through, and that another such polygon coincides with
     lost_area: float  # an estimate of what is missing
     lost_share: float  # of the whole with it
+    jump_area: float  # by how much the area differs between the planes just above and just below, by faces that are not flat
+    jump_cells: list[int]  # the cells with these faces
     listed: int
     in_loops: int
     flat: int
     open: int
-    touching_cells: int  # cells with edges that are not drawn, and no area lost
+    touching_cells: int  # of the cells in undrawn, those with no area lost
     undrawn: list[UndrawnCell]
     crossed_without_edge: list[int]
     crossed_face_without_segment: list[int]
@@ -97,13 +100,8 @@ class PlaneRecord:
 
     @property
     def nothing_lost(self) -> bool:
-        """Whether no area is known to be missing in cells that are cut: at most edges that bound none are not drawn."""
-        return not self.lost_cells and not self._gaps()
-
-    @property
-    def only_touching(self) -> bool:
-        """The same."""
-        return self.nothing_lost
+        """Whether the area can be printed, as far as cells are concerned that are cut: no reason for exit status 3."""
+        return all(status != 3 for status, _ in self.reasons)
 
     @property
     def lost_cells(self) -> list[UndrawnCell]:
@@ -119,16 +117,14 @@ class PlaneRecord:
         """Every reason for an exit status other than 0, with the status."""
         found = []
         if self.lost_cells:
-            found.append((3, f"{number(len(self.lost_cells), 'cell')} with area lost: about {self.lost_area:.3g}, "
-                             f"{100 * self.lost_share:.3g} % of the whole"))
-        for cells, words in (
-            (self.crossed_without_edge, "that the plane passes through, without an edge"),
-            (self.crossed_face_without_segment, "with a face that the plane passes through and that has no segment"),
-            (self.within_tolerance, "wholly within the tolerance of the plane, without a section"),
-            (self.not_finite, "with a corner coordinate that is not finite"),
-        ):
-            if cells:
-                found.append((3, f"{number(len(cells), 'cell')} {words}{some(cells)}"))
+            kinds = Counter(cell.what for cell in self.lost_cells)
+            found.append((3, f"{number(len(self.lost_cells), 'cell')} with area lost, about {self.lost_area:.3g} or "
+                             f"{100 * self.lost_share:.3g} % of the whole: " + ", ".join(f"{count} with {what}" for what, count in kinds.items())))
+        if self.jump_area > JUMP * self.area:
+            found.append((3, f"the area jumps by about {self.jump_area:.3g} here: the plane passes through a corner of a face that is not "
+                             f"flat and that no other cell shares, of {number(len(self.jump_cells), 'cell')}{some(self.jump_cells)}"))
+        if self.not_finite:
+            found.append((3, f"{number(len(self.not_finite), 'cell')} with a corner coordinate that is not finite{some(self.not_finite)}"))
         if any(self.not_cut_reached.values()):
             found.append((4, f"the plane may reach cells of types that are not cut: {counted(self.not_cut_reached)}"))
         found += [(4, f"meshio left cells out while reading: {remark}") for remark in self.dropped]
@@ -149,16 +145,19 @@ class PlaneRecord:
     def _drawn_in_words(self) -> str:
         if not self.flat and not self.open:
             return ", and no listed edge is left undrawn"
-        undrawn = (f", and {self.flat} flat and {number(self.open, 'open edge')} in {number(len(self.undrawn), 'cell')} "
+        cells = sum(cell.flat + cell.open > 0 for cell in self.undrawn)
+        undrawn = (f", and {self.flat} flat and {number(self.open, 'open edge')} in {number(cells, 'cell')} "
                    f"{'is' if self.flat + self.open == 1 else 'are'} not drawn")
-        if not self.lost_cells:
-            return undrawn + ", which bound no area"
-        return undrawn + (f", by which an area of about {self.lost_area:.3g} is lost, {100 * self.lost_share:.3g} % of the whole"
-                          + (f" ({self.touching_cells} of these cells lose none)" if self.touching_cells else ""))
+        lost = any(cell.flat + cell.open for cell in self.lost_cells)
+        return undrawn + ("" if lost else f", which {'bounds' if self.flat + self.open == 1 else 'bound'} no area")
 
     def _remarks(self) -> list[str]:
         """What else a reader of the area has to know."""
         found = []
+        if self.lost_cells:
+            found.append(f"an area of about {self.lost_area:.3g} is lost in {number(len(self.lost_cells), 'cell')}, {100 * self.lost_share:.3g} % of the whole")
+        if self.jump_area > JUMP * self.area:
+            found.append(f"the area jumps by about {self.jump_area:.3g} at this plane, by faces that are not flat")
         if self.repeated_area:
             found.append(f"polygons of cells on both sides of the plane overlap there, and an area of {self.repeated_area:.12g} is counted once only")
         if self.straightened:
@@ -184,8 +183,8 @@ class PlaneRecord:
     def __str__(self) -> str:
         text = [f"{name:<18}{value}" for name, value in self._lines()]
         lost = self.lost_cells
-        text += [f"AREA LOST         cell {u.cell} ({u.type}): about {u.lost_area:.3g}; {u.flat} flat and {u.open} open of {u.listed} edges, "
-                 f"near {vector(u.points[0]) if u.points else 'no point'}" for u in lost[:20]]
+        text += [f"AREA LOST         cell {u.cell} ({u.type}): about {u.lost_area:.3g}; {u.what}: {u.flat} flat and {u.open} open of "
+                 f"{u.listed}, near {vector(u.points[0])}" for u in lost[:20]]
         if len(lost) > 20:
             text.append(f"AREA LOST         and {number(len(lost) - 20, 'more cell')}, all in the report")
         text += [f"WARNING           {warning}" for warning in self.warnings]
@@ -211,8 +210,10 @@ class PlaneRecord:
             ("straightened", self.straightened, f"{number(self.straightened, 'cell')} with mid-side nodes, cut as straight between corners"),
             ("self-touching", self.self_touching, f"{number(self.self_touching, 'polygon')} through a point twice, cut there into rings"),
             ("self-crossing", self.self_crossing, f"{number(self.self_crossing, 'cell')} with polygons that cross, by the even-odd rule"),
-            ("touched", self.touching_cells, f"{number(self.touching_cells, 'cell')} with edges that bound no area and are not drawn"),
+            ("touched", self.touching_cells, f"{number(self.touching_cells, 'cell')} where what is not drawn bounds no area"),
             ("lost", self.lost_cells, f"about {self.lost_area:.6g}, {100 * self.lost_share:.3g} % of the whole, in {number(len(self.lost_cells), 'cell')}"),
+            ("jumps", self.jump_area > JUMP * self.area, f"by about {self.jump_area:.6g} at this plane, by faces that are not flat, of "
+                                                        f"{number(len(self.jump_cells), 'cell')}{some(self.jump_cells)}"),
             ("no edge", self.crossed_without_edge, f"{number(len(self.crossed_without_edge), 'cell')} passed through{some(self.crossed_without_edge)}"),
             ("no segment", self.crossed_face_without_segment, f"{number(len(self.crossed_face_without_segment), 'cell')} with a face passed through"
                                                              f"{some(self.crossed_face_without_segment)}"),
@@ -269,25 +270,41 @@ def some(cells: list[int]) -> str:
     return ": " + ", ".join(map(str, cells[:8])) + (", ..." if len(cells) > 8 else "")
 
 
-def plane_record(cut: PlaneCut, sides: Sides, tol: float, own: float, reached: Reached, rings: Rings, net: NetArea) -> PlaneRecord:
-    mesh, frame = cut.mesh, cut.frame
+def plane_record(cut: PlaneCut, sides: Sides, tol: float, own: float, findings: Findings) -> PlaneRecord:
+    mesh, frame, reached, rings, net = cut.mesh, cut.frame, findings.reached, findings.rings, findings.net
     listed, in_loops, flat, opened = cut.counts.sum(axis=0).tolist()
-    lost = _Lost(cut, reached)
+    lost, undrawn = findings.lost.total, _undrawn(cut, findings)
     record = PlaneRecord(
         VERSION, mesh.source, list(frame.origin), list(frame.normal), list(frame.u), list(frame.v), 0.0, tol, own, mesh.extent,
         mesh.total, mesh.types(), mesh.not_cut(), _not_cut_reached(cut, sides),
         handed_over=reached.handed_over, straightened=reached.curved, crossed=len(reached.through), with_edges=len(cut.cells),
         polygons=int((~cut.hole).sum()), holes=int(cut.hole.sum()), self_touching=rings.self_touching, self_crossing=rings.crossing,
         area=net.area, repeated_area=net.repeated, coincident_polygons=net.coincident, doubled_polygons=net.doubled,
-        lost_area=lost.area, lost_share=lost.area / (net.area + lost.area) if lost.area else 0.0,
-        listed=listed, in_loops=in_loops, flat=flat, open=opened,
-        touching_cells=sum(cell.touching for cell in lost.cells), undrawn=lost.cells,
+        lost_area=lost, lost_share=lost / (net.area + lost) if lost else 0.0,
+        jump_area=findings.jumps.area, jump_cells=findings.jumps.cells, listed=listed, in_loops=in_loops, flat=flat, open=opened,
+        touching_cells=sum(cell.touching for cell in undrawn), undrawn=undrawn,
         crossed_without_edge=reached.no_edge.tolist(), crossed_face_without_segment=reached.no_segment.tolist(),
         within_tolerance=reached.within.tolist(), not_finite=reached.not_finite.tolist(),
         missed_by=_missed_by(cut, reached), dropped=mesh.dropped,
     )
     record.warnings = _warnings(record, mesh.remarks)
     return record
+
+
+def _undrawn(cut: PlaneCut, findings: Findings) -> list[UndrawnCell]:
+    cells, reached = findings.lost.cells, findings.reached
+    rows = np.searchsorted(cut.cells, cells)
+    space = cut.in_space() if len(cells) else None
+    no_edge, no_segment, within = ({*part.tolist()} for part in (reached.no_edge, reached.no_segment, reached.within))
+    found = []
+    for cell, row, name, area in zip(cells.tolist(), rows.tolist(), cut.mesh.type_of(cells), findings.lost.area.tolist()):
+        listed = row < len(cut.cells) and cut.cells[row] == cell
+        counts = cut.counts[row].tolist() if listed else [0, 0, 0, 0]
+        what = ("no edge" if cell in no_edge else "a face without a segment" if cell in no_segment
+                else "all corners within the tolerance" if cell in within else "edges not drawn")
+        points = space[slice(*cut.cell_points[row])] if listed else cut.mesh.middle(cell)[None]
+        found.append(UndrawnCell(cell, str(name), *counts, LOST if area else TOUCHING, what, area, points.tolist()))
+    return found
 
 
 def _missed_by(cut: PlaneCut, reached: Reached) -> float:
@@ -298,22 +315,6 @@ def _missed_by(cut: PlaneCut, reached: Reached) -> float:
     for block in cut.mesh.blocks:
         corners[block.all_corners()] = True
     return float(np.abs(distances(cut.mesh.points[corners], cut.near.origin, cut.near.normal)).min())
-
-
-class _Lost:
-    """The cells with edges that were not drawn, told apart."""
-
-    def __init__(self, cut: PlaneCut, reached: Reached) -> None:
-        rows = np.flatnonzero(cut.counts[:, 2] + cut.counts[:, 3])
-        cells = cut.cells[rows]
-        touching = ~np.isin(cells, reached.through) & (cut.counts[rows, 0] == 1)
-        space = cut.in_space()
-        self.cells = [
-            UndrawnCell(int(cut.cells[k]), str(name), *cut.counts[k].tolist(), TOUCHING if touches else LOST, 0.0,
-                        space[slice(*cut.cell_points[k])].tolist())
-            for k, name, touches in zip(rows, cut.mesh.type_of(cells), touching)
-        ]
-        self.area = 0.0
 
 
 def _not_cut_reached(cut: PlaneCut, sides: Sides) -> dict[str, int]:
@@ -340,13 +341,13 @@ def _warnings(record: PlaneRecord, remarks: list[str]) -> list[str]:
                      f"the mesh extends over {extent(record.extent)}")
     if not record.tolerance >= record.mesh_tolerance:
         found.append(below_own(record.tolerance, record.mesh_tolerance, "plane"))
-    if record.crossed_without_edge or record.crossed_face_without_segment:
+    if any(cell.what in ("no edge", "a face without a segment") for cell in record.lost_cells):
         found.append(
             f"of {number(record.crossed, 'cell')} that the plane passes through, {len(record.crossed_without_edge)} without an edge and "
             f"{len(record.crossed_face_without_segment)} with a face without its segment: the section has gaps that the "
             "counts of edges do not show"
         )
-    if record.within_tolerance:
+    if any(cell.what == "all corners within the tolerance" for cell in record.lost_cells):
         found.append(
             f"{number(len(record.within_tolerance), 'cell')} wholly within the tolerance {record.tolerance:.3g} of the plane, without a "
             "section; a node far from the others makes the mesh's own tolerance large: give --tolerance"
