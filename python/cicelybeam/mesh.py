@@ -186,10 +186,14 @@ class Mesh:
         block = self.block_of(cell)
         return f"cell {cell} ({block.name}, number {cell - block.first} of its block)"
 
+    def corners(self, cell: int) -> np.ndarray:
+        """The nodes that are corners of a cell that is cut."""
+        block = self.block_of(cell)
+        return block.corners(cell - block.first)
+
     def middle(self, cell: int) -> np.ndarray:
         """The mean of the corners of a cell that is cut."""
-        block = self.block_of(cell)
-        return self.points[block.corners(cell - block.first)].mean(axis=0)
+        return self.points[self.corners(cell)].mean(axis=0)
 
     def group_of(self, cells: np.ndarray) -> np.ndarray | None:
         """The number of the group of each of these cells, or None where the file has no groups; `groups` has the names."""
