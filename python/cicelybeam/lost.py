@@ -17,7 +17,7 @@ from shapely.ops import unary_union
 from .cells import Cutter, Loops
 from .mesh import Block, Mesh, Polyhedra
 from .netarea import near_bounds, neighbours, ring_shapes
-from .place import Frame, Vector
+from .place import Frame, Vector, moved
 from .rings import Rings, simple_rings
 
 LEVELS = 11  # distances of 4, 16, 64 .. tolerances
@@ -109,7 +109,7 @@ class _Estimate:
     def cut(self, side: int, level: int) -> Near:
         if (side, level) not in self.cuts:
             away = (1 - 2 * side) * self.tol * GROWTH ** (level + 1)
-            origin = tuple(o + away * n for o, n in zip(self.frame.origin, self.frame.normal))
+            origin = moved(self.frame.origin, self.frame.normal, away)
             self.cuts[side, level] = _cut_near(self.mesh, origin, self.normal, self.tol, self.cells)
         return self.cuts[side, level]
 

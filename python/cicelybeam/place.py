@@ -188,6 +188,11 @@ def nearest_in_plane(origin: Vector, normal: Vector, middle: Vector) -> Vector:
     return tuple(float(a - along * c) for a, c in zip(m, n))
 
 
+def moved(origin: Vector, normal: Vector, distance: float) -> Vector:
+    """This far from the origin along the normal."""
+    return tuple(o + distance * n for o, n in zip(origin, normal)) if distance else origin
+
+
 def nearest_on_line(origin: Vector, direction: Vector, middle: Vector) -> Vector:
     """The point of the line that is nearest to the middle, as for a plane."""
     o, d, m = ([Fraction(x) for x in a] for a in (origin, direction, middle))

@@ -2,7 +2,7 @@
 from __future__ import annotations
 
 from collections.abc import Iterator
-from dataclasses import dataclass
+from dataclasses import dataclass, replace
 
 import meshio
 import numpy as np
@@ -18,6 +18,7 @@ from .place import ABOVE, BELOW, Frame, Sides, Vector
 from .record import PlaneRecord, counted, plane_record
 from .refusal import MeshError
 from .rings import Rings, simple_rings
+from .shift import MOST, extent_of, nearest_shift
 
 
 @dataclass(repr=False)
@@ -43,6 +44,7 @@ class PlaneCut:
     counts: np.ndarray  # for each of them: listed, in loops, flat, open
     cell_points: np.ndarray  # for each of them: the first of its points, and the one after the last
     near: Frame  # the same plane, from the point of it that is nearest the mesh's middle; cells are cut from there
+    asked: Asked
     record: PlaneRecord
 
     def __len__(self) -> int:
@@ -89,8 +91,32 @@ class PlaneCut:
         rows = np.flatnonzero(self.counts[:, 2] + self.counts[:, 3])
         return {int(self.cells[k]): self.points[slice(*self.cell_points[k])] for k in rows}
 
+    def look_for_shift(self, most: float | None = None) -> float | None:
+        """How far the nearest parallel plane is that loses no area, along the normal or against it; None where none is found.
+
+        The record keeps it, and how far was looked: by default 1e-6 of the mesh's extent.
+        """
+        def draws_all(mesh: Mesh, shift: float) -> bool:
+            return _Cut(mesh, replace(self.asked, shift=shift), True, None).result().record.nothing_lost
+
+        self.record.shift_most = MOST * extent_of(self.mesh) if most is None else most
+        found = nearest_shift(self.mesh, self.near, max(self.asked.tol, self.asked.own), draws_all, self.record.shift_most)
+        self.record.shift_that_draws_all = found
+        return found
+
     def __str__(self) -> str:
         return str(self.record)
+
+
+@dataclass(frozen=True)
+class Asked:
+    """What a cut was asked for: the plane as given, the tolerance and the mesh's own, and a distance along the unit normal."""
+
+    origin: Vector
+    normal: Vector
+    tol: float
+    own: float
+    shift: float = 0.0
 
 
 def cut_plane(
@@ -99,13 +125,17 @@ def cut_plane(
     normal: object,
     tolerance: float | None = None,
     *,
+    shift: bool = False,
+    shift_most: float | None = None,
     leave_out: bool = True,
     progress: Progress | None = None,
 ) -> PlaneCut:
     """All cells of a space mesh cut by the plane through origin with this normal, which need not be of length 1.
 
     The tolerance is the distance up to which a point counts as on the plane and two points as one; by default the
-    mesh's own. `leave_out=False` calls the library also for cells that cannot touch the plane: same answer, slower.
+    mesh's own. With `shift`, where area is lost, the cut is by the nearest parallel plane that loses none, up to `shift_most`
+    away (by default 1e-6 of the mesh's extent); `record.shift` tells how far it is, or is 0 where there is none.
+    `leave_out=False` calls the library also for cells that cannot touch the plane: same answer, slower.
 
     >>> cube = meshio.Mesh([[0, 0, 0], [1, 0, 0], [1, 1, 0], [0, 1, 0], [0, 0, 1], [1, 0, 1], [1, 1, 1], [0, 1, 1.0]],
     ...                    [("hexahedron", [[0, 1, 2, 3, 4, 5, 6, 7]])])
@@ -120,7 +150,13 @@ def cut_plane(
     origin, normal = place.vector(origin, 3, "origin"), place.vector(normal, 3, "normal")
     own = slice_tolerance(found.points)
     tol = place.chosen_tolerance(tolerance, own, found.source)
-    return _Cut(found, origin, normal, tol, own, leave_out, progress).result()
+    asked = Asked(origin, normal, tol, own)
+    cut = _Cut(found, asked, leave_out, progress).result()
+    if shift and not cut.record.nothing_lost:
+        cut.look_for_shift(shift_most)
+        if cut.record.shift_that_draws_all:
+            return _Cut(found, replace(asked, shift=cut.record.shift_that_draws_all), leave_out, progress).result()
+    return cut
 
 
 def _check(mesh: Mesh) -> None:
@@ -160,14 +196,13 @@ class Findings:
 class _Cut:
     """The calls for one plane, and what is made of their answers."""
 
-    def __init__(self, mesh: Mesh, origin: Vector, normal: Vector, tol: float, own: float,
-                 leave_out: bool, progress: Progress | None) -> None:
-        self.mesh, self.tol, self.own, self.leave_out, self.progress = mesh, tol, own, leave_out, progress
-        self.frame, self.normal = place.plane(origin, normal), normal
-        self.near = Frame(place.nearest_in_plane(origin, normal, mesh.centre() or origin),
-                          self.frame.normal, self.frame.u, self.frame.v)
-        self.sides = place.sides(mesh.points, self.near.origin, self.near.normal, tol)
-        self.cutter = Cutter(mesh, self.near.origin, normal, tol)
+    def __init__(self, mesh: Mesh, asked: Asked, leave_out: bool, progress: Progress | None) -> None:
+        self.mesh, self.asked, self.leave_out, self.progress = mesh, asked, leave_out, progress
+        given = place.plane(asked.origin, asked.normal)
+        near = place.nearest_in_plane(asked.origin, asked.normal, mesh.centre() or asked.origin)
+        self.frame, self.near = (replace(given, origin=place.moved(origin, given.normal, asked.shift)) for origin in (asked.origin, near))
+        self.sides = place.sides(mesh.points, self.near.origin, self.near.normal, asked.tol)
+        self.cutter = Cutter(mesh, self.near.origin, asked.normal, asked.tol)
 
     def result(self) -> PlaneCut:
         reached = self._reached()
@@ -175,21 +210,21 @@ class _Cut:
         rings = simple_rings(loops)
         side = np.where(np.isin(rings.cell, reached.above), 1, -1).astype(np.int8)
         side[np.isin(rings.cell, reached.through)] = 0
-        net = net_area(rings, side, max(self.own, self.tol))
+        net = net_area(rings, side, max(self.asked.own, self.asked.tol))
         lost = self._lost(reached, loops, rings)
         jumps = find_jumps(self.mesh, self.near, self.sides, reached.through)
         offset = self.frame.in_plane(np.array([self.near.origin]))
         cut = PlaneCut(self.mesh, self.frame, rings.points + offset, rings.nodes, rings.ends, rings.cell, rings.area, rings.hole,
-                       rings.outer, side, loops.cells, loops.counts, loops.cell_points, self.near, None)  # type: ignore[arg-type]
-        cut.record = plane_record(cut, self.sides, self.tol, self.own, Findings(reached, rings, net, lost, jumps))
+                       rings.outer, side, loops.cells, loops.counts, loops.cell_points, self.near, self.asked, None)  # type: ignore[arg-type]
+        cut.record = plane_record(cut, self.sides, Findings(reached, rings, net, lost, jumps))
         return cut
 
     def _lost(self, reached: Reached, loops: Loops, rings: Rings) -> Lost:
         """Looks at every cell where something was not drawn."""
         undrawn = loops.cells[(loops.counts[:, 2:] > 0).any(axis=1)]
         doubtful = np.unique(np.concatenate([undrawn, reached.no_edge, reached.no_segment, reached.within]))
-        return lost_area(self.mesh, self.near, self.normal, max(self.own, self.tol), np.setdiff1d(doubtful, reached.not_finite),
-                         reached.within, loops, rings)
+        return lost_area(self.mesh, self.near, self.asked.normal, max(self.asked.own, self.asked.tol),
+                         np.setdiff1d(doubtful, reached.not_finite), reached.within, loops, rings)
 
     def _reached(self) -> Reached:
         """Cuts the cells that may have a segment."""

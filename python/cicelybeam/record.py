@@ -87,7 +87,8 @@ class PlaneRecord:
     not_finite: list[int]  # handed over, with a corner coordinate that is NaN or infinite
     missed_by: float  # the distance from the plane to the nearest corner, where it meets no cell
     dropped: list[str]  # what meshio says of cells that it left out while reading
-    shift_that_draws_all: float | None = None  # by which a parallel plane loses nothing, where this one does and it was looked for
+    shift_that_draws_all: float | None = None  # to the nearest parallel plane that loses no area, where it was looked for and found
+    shift_most: float | None = None  # how far it was looked for
     warnings: list[str] = field(default_factory=list)
 
     @property
@@ -129,6 +130,15 @@ class PlaneRecord:
             found.append((4, f"the plane may reach cells of types that are not cut: {counted(self.not_cut_reached)}"))
         found += [(4, f"meshio left cells out while reading: {remark}") for remark in self.dropped]
         return found
+
+    @property
+    def advice(self) -> str:
+        """What the search for a parallel plane found, in words."""
+        if self.shift_most is None:
+            return ""
+        if self.shift_that_draws_all is None:
+            return f"no parallel plane up to {self.shift_most:.3g} away loses no area; --shift-most looks further"
+        return f"a plane shifted by {self.shift_that_draws_all:.6g} along the normal loses no area: --shift takes it"
 
     def sentence(self) -> str:
         """The summary, for a methods section."""
@@ -270,13 +280,14 @@ def some(cells: list[int]) -> str:
     return ": " + ", ".join(map(str, cells[:8])) + (", ..." if len(cells) > 8 else "")
 
 
-def plane_record(cut: PlaneCut, sides: Sides, tol: float, own: float, findings: Findings) -> PlaneRecord:
-    mesh, frame, reached, rings, net = cut.mesh, cut.frame, findings.reached, findings.rings, findings.net
+def plane_record(cut: PlaneCut, sides: Sides, findings: Findings) -> PlaneRecord:
+    mesh, frame, asked = cut.mesh, cut.frame, cut.asked
+    reached, rings, net = findings.reached, findings.rings, findings.net
     listed, in_loops, flat, opened = cut.counts.sum(axis=0).tolist()
     lost, undrawn = findings.lost.total, _undrawn(cut, findings)
     record = PlaneRecord(
-        VERSION, mesh.source, list(frame.origin), list(frame.normal), list(frame.u), list(frame.v), 0.0, tol, own, mesh.extent,
-        mesh.total, mesh.types(), mesh.not_cut(), _not_cut_reached(cut, sides),
+        VERSION, mesh.source, list(asked.origin), list(frame.normal), list(frame.u), list(frame.v), asked.shift, asked.tol, asked.own,
+        mesh.extent, mesh.total, mesh.types(), mesh.not_cut(), _not_cut_reached(cut, sides),
         handed_over=reached.handed_over, straightened=reached.curved, crossed=len(reached.through), with_edges=len(cut.cells),
         polygons=int((~cut.hole).sum()), holes=int(cut.hole.sum()), self_touching=rings.self_touching, self_crossing=rings.crossing,
         area=net.area, repeated_area=net.repeated, coincident_polygons=net.coincident, doubled_polygons=net.doubled,
