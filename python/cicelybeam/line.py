@@ -13,6 +13,7 @@ from .library import MOST_ENTRIES, floats, library, slice_tolerance
 from .mesh import Mesh, of_meshio
 from .place import ABOVE, BELOW, Sides, Vector
 from .plane import PlaneCut, cut_plane
+from .publish import Published
 from .record import below_own, counted, extent, number, some, vector, were
 from .refusal import MeshError, Refused
 from .version import VERSION
@@ -76,6 +77,8 @@ class LineRecord:
         found += [(4, f"meshio left cells out while reading: {remark}") for remark in self.dropped]
         return found
 
+    advice = ""  # for a line no shift is looked for
+
     def sentence(self) -> str:
         """The summary, for a methods section."""
         cells = sum(self.cells_by_type.values())
@@ -118,7 +121,7 @@ class LineRecord:
 
 
 @dataclass
-class LineCut:
+class LineCut(Published):
     """The segments of a cut, first end then second, with the cell of each."""
 
     mesh: Mesh

@@ -15,14 +15,15 @@ from .lost import Lost, lost_area
 from .mesh import Mesh, of_meshio
 from .netarea import NetArea, net_area
 from .place import ABOVE, BELOW, Frame, Sides, Vector
+from .publish import Published
 from .record import PlaneRecord, counted, plane_record
 from .refusal import MeshError
 from .rings import Rings, simple_rings
-from .shift import MOST, extent_of, nearest_shift
+from .shift import MOST, Drawn, extent_of, nearest_shift
 
 
 @dataclass(repr=False)
-class PlaneCut:
+class PlaneCut(Published):
     """The polygons of a cut, and the account of every listed edge.
 
     Points are in the plane, from its origin; `in_space()` gives them in space. Polygons are simple rings: ring k has the
@@ -92,17 +93,19 @@ class PlaneCut:
         return {int(self.cells[k]): self.points[slice(*self.cell_points[k])] for k in rows}
 
     def look_for_shift(self, most: float | None = None) -> float | None:
-        """How far the nearest parallel plane is that loses no area, along the normal or against it; None where none is found.
+        """How far the nearest parallel plane is by which everything is drawn, along the normal or against it.
 
-        The record keeps it, and how far was looked: by default 1e-6 of the mesh's extent.
+        Where there is none and this plane loses area, the nearest that loses none; None where there is neither. The record
+        keeps it, and how far was looked: by default 1e-6 of the mesh's extent.
         """
-        def draws_all(mesh: Mesh, shift: float) -> bool:
-            return _Cut(mesh, replace(self.asked, shift=shift), True, None).result().record.nothing_lost
+        def drawn_at(mesh: Mesh, shift: float) -> Drawn:
+            return _Cut(mesh, replace(self.asked, shift=shift), True, None).result().record.drawn
 
-        self.record.shift_most = MOST * extent_of(self.mesh) if most is None else most
-        found = nearest_shift(self.mesh, self.near, max(self.asked.tol, self.asked.own), draws_all, self.record.shift_most)
-        self.record.shift_that_draws_all = found
-        return found
+        record, tol = self.record, max(self.asked.tol, self.asked.own)
+        record.shift_most = MOST * extent_of(self.mesh) if most is None else most
+        enough = Drawn.ALL if record.nothing_lost else Drawn.AREA
+        record.shift_that_draws_all = nearest_shift(self.mesh, self.near, tol, drawn_at, record.shift_most, enough)
+        return record.shift_that_draws_all
 
     def __str__(self) -> str:
         return str(self.record)
@@ -133,8 +136,8 @@ def cut_plane(
     """All cells of a space mesh cut by the plane through origin with this normal, which need not be of length 1.
 
     The tolerance is the distance up to which a point counts as on the plane and two points as one; by default the
-    mesh's own. With `shift`, where area is lost, the cut is by the nearest parallel plane that loses none, up to `shift_most`
-    away (by default 1e-6 of the mesh's extent); `record.shift` tells how far it is, or is 0 where there is none.
+    mesh's own. With `shift` the cut is by the nearest parallel plane by which everything is drawn, up to `shift_most` away (by
+    default 1e-6 of the mesh's extent); `record.shift` tells how far it is, or is 0 where there is none.
     `leave_out=False` calls the library also for cells that cannot touch the plane: same answer, slower.
 
     >>> cube = meshio.Mesh([[0, 0, 0], [1, 0, 0], [1, 1, 0], [0, 1, 0], [0, 0, 1], [1, 0, 1], [1, 1, 1], [0, 1, 1.0]],
@@ -152,7 +155,7 @@ def cut_plane(
     tol = place.chosen_tolerance(tolerance, own, found.source)
     asked = Asked(origin, normal, tol, own)
     cut = _Cut(found, asked, leave_out, progress).result()
-    if shift and not cut.record.nothing_lost:
+    if shift and cut.record.drawn != Drawn.ALL:
         cut.look_for_shift(shift_most)
         if cut.record.shift_that_draws_all:
             return _Cut(found, replace(asked, shift=cut.record.shift_that_draws_all), leave_out, progress).result()

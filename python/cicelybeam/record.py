@@ -8,6 +8,7 @@ from typing import TYPE_CHECKING
 import numpy as np
 
 from .place import Sides, distances
+from .shift import Drawn
 from .version import VERSION
 
 if TYPE_CHECKING:
@@ -105,6 +106,11 @@ class PlaneRecord:
         return all(status != 3 for status, _ in self.reasons)
 
     @property
+    def drawn(self) -> Drawn:
+        """How much of the section is drawn."""
+        return (Drawn.ALL if self.all_drawn else Drawn.AREA) if self.nothing_lost else Drawn.NOT_ALL
+
+    @property
     def lost_cells(self) -> list[UndrawnCell]:
         return [cell for cell in self.undrawn if not cell.touching]
 
@@ -137,8 +143,8 @@ class PlaneRecord:
         if self.shift_most is None:
             return ""
         if self.shift_that_draws_all is None:
-            return f"no parallel plane up to {self.shift_most:.3g} away loses no area; --shift-most looks further"
-        return f"a plane shifted by {self.shift_that_draws_all:.6g} along the normal loses no area: --shift takes it"
+            return f"no parallel plane up to {self.shift_most:.3g} away does better; --shift-most looks further"
+        return f"by a plane shifted by {self.shift_that_draws_all:.6g} along the normal no area is lost: --shift takes it"
 
     def sentence(self) -> str:
         """The summary, for a methods section."""

@@ -1,8 +1,9 @@
-"""The nearest parallel plane by which nothing is lost."""
+"""The nearest parallel plane by which everything is drawn."""
 from __future__ import annotations
 
 from collections.abc import Callable, Iterator
 from dataclasses import replace
+from enum import IntEnum
 
 import numpy as np
 
@@ -13,19 +14,31 @@ from .place import Frame
 MOST = 1e-6  # of the mesh's extent
 
 
-def nearest_shift(mesh: Mesh, frame: Frame, tol: float, draws_all: Callable[[Mesh, float], bool], most: float | None = None) -> float | None:
-    """How far along the normal, or against it, the first plane is that draws all; None where no plane up to `most` away does.
+class Drawn(IntEnum):
+    """How much of a section a plane draws."""
 
-    Planes are tried on both sides in growing steps. Cells that none of them reaches are left out once and for all.
+    NOT_ALL = 0  # area is lost, or it jumps
+    AREA = 1  # all but edges that bound no area
+    ALL = 2  # every edge
+
+
+def nearest_shift(mesh: Mesh, frame: Frame, tol: float, drawn_at: Callable[[Mesh, float], Drawn], most: float, enough: Drawn) -> float | None:
+    """How far along the normal, or against it, the first plane is that draws everything; else the first that draws enough.
+
+    Planes are tried on both sides in growing steps, up to `most` away. Cells that none of them reaches are left out once and
+    for all.
     """
-    most = MOST * extent_of(mesh) if most is None else most
     slab = place.sides(mesh.points, frame.origin, frame.normal, most + 2 * tol)
     near = replace(mesh, blocks=_kept(mesh, slab))
+    second = None
     for step in _steps(2 * tol, most):
         for shift in (step, -step):
-            if draws_all(near, shift):
+            found = drawn_at(near, shift)
+            if found == Drawn.ALL:
                 return shift
-    return None
+            if second is None and found >= enough:
+                second = shift
+    return second
 
 
 def extent_of(mesh: Mesh) -> float:
