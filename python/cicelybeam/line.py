@@ -120,7 +120,7 @@ class LineRecord:
         return "\n".join([*(f"{name:<18}{value}" for name, value in lines), "", self.sentence()])
 
 
-@dataclass
+@dataclass(repr=False)
 class LineCut(Published):
     """The segments of a cut, first end then second, with the cell of each."""
 
@@ -134,6 +134,9 @@ class LineCut(Published):
 
     def __len__(self) -> int:
         return len(self.segments)
+
+    def __repr__(self) -> str:
+        return f"<LineCut of {self.mesh.source}: {len(self)} segments, length covered {self.record.covered:.12g}>"
 
     def __str__(self) -> str:
         return str(self.record)

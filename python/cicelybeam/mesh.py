@@ -3,6 +3,7 @@ from __future__ import annotations
 
 import contextlib
 import io
+import os
 from collections import Counter
 from dataclasses import dataclass, field
 from pathlib import Path
@@ -213,6 +214,7 @@ def read(path: str | Path) -> Mesh:
     try:
         with contextlib.redirect_stderr(said), contextlib.redirect_stdout(said):
             found = meshio.read(path)
+        seen = os.stat(path)
     except SystemExit as error:  # meshio prints why, then that it could not read the file, and exits
         told = " ".join(_words(said).split("Error: Couldn't")[0].split())
         raise MeshError(f"{path}: meshio cannot read it" + (f": {told}" if told else "")) from error
@@ -222,6 +224,7 @@ def read(path: str | Path) -> Mesh:
             told += " Save it from gmsh as version 2 (gmsh -format msh2), or without elements of no physical group (Mesh.SaveAll = 0)."
         raise MeshError(f"{path}: meshio cannot read it: {told}") from error
     mesh = of_meshio(found, str(path))
+    mesh.stamp = (seen.st_mtime_ns, seen.st_size)
     mesh.remarks = [" ".join(part.split()) for part in _words(said).split("Warning:")[1:]]  # before: other readers' complaints
     return mesh
 

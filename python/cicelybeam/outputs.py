@@ -10,6 +10,16 @@ from pathlib import Path
 
 from .refusal import CicelybeamError
 
+PICTURES = (".svg", ".pdf", ".eps", ".png")
+REPORTS = (".html", ".json", ".csv")
+POLYGONS = (".vtp", ".vtu", ".vtk", ".ply", ".obj")  # meshio's other formats drop polygons or cannot write them
+
+
+def check_suffix(path: Path, suffixes: tuple[str, ...], what: str) -> None:
+    if path.suffix.lower() not in suffixes:
+        *most, last = suffixes
+        raise CicelybeamError(f"{path}: {what} is a {', '.join(most)}{' or ' if most else ''}{last} file")
+
 
 def check_places(mesh: str | Path, outputs: list[Path]) -> None:
     """Refuses outputs that are the mesh's own file, one another's, or in no folder that can be written to."""

@@ -1,4 +1,5 @@
 """The command: what it prints and writes, its exit status, and every error path."""
+import base64
 import csv
 import json
 import subprocess
@@ -44,7 +45,7 @@ def test_plane_with_all_files(path, tmp_path, capsys):
 def test_csv(path, tmp_path):
     assert run("plane", path, *PLANE, "--report", tmp_path / "a.csv", "--quiet") == 0
     rows = list(csv.DictReader((tmp_path / "a.csv").open()))
-    assert rows and {"cell", "type", "listed", "in_loops", "flat", "open", "area"} <= set(rows[0])
+    assert rows and {"polygon", "cell", "type", "group", "area", "x", "y", "z", "u", "v"} <= set(rows[0])
 
 
 @pytest.mark.parametrize("suffix", [".svg", ".png", ".pdf"])
@@ -63,15 +64,23 @@ def test_picture_marks_what_is_missing(path, tmp_path):
     assert "#d00000" in out.read_text()
 
 
+def decoded(array) -> np.ndarray:
+    """The numbers of a binary DataArray, after the 8 bytes of their length."""
+    raw = base64.b64decode(array.text)[8:]
+    values = np.frombuffer(raw, dtype={"Float64": "<f8", "Int64": "<i8"}[array.get("type")])
+    width = int(array.get("NumberOfComponents"))
+    return values.reshape(-1, width) if width > 1 else values
+
+
 def test_vtp(path, tmp_path):
     """Read by its own XML: as many polygons, and their areas from the points in space."""
     from xml.etree import ElementTree
 
     out = tmp_path / "a.vtp"
     assert run("plane", path, *PLANE, "--vtk", out) == 0
-    arrays = {a.get("Name"): np.array(a.text.split(), dtype=float) for a in ElementTree.parse(out).iter("DataArray")}
-    points, ends = arrays["points"].reshape(-1, 3), arrays["offsets"].astype(int)
-    loops = np.split(arrays["connectivity"].astype(int), ends[:-1])
+    arrays = {a.get("Name"): decoded(a) for a in ElementTree.parse(out).iter("DataArray")}
+    points, ends = arrays["points"], arrays["offsets"]
+    loops = np.split(arrays["connectivity"], ends[:-1])
     cross = [0.5 * sum(np.cross(points[a], points[b]) for a, b in zip(loop, np.roll(loop, -1))) for loop in loops]
     assert np.linalg.norm(cross, axis=1) == pytest.approx(arrays["area"], abs=1e-12)
     normal = np.array([-1, 2, 5]) / np.sqrt(30)
@@ -101,7 +110,7 @@ def test_status_is_explained(path, capsys):
     """Every reason, not the first alone."""
     run("plane", path, *PLANE, "--tolerance", 0, "--quiet")
     said = capsys.readouterr().err
-    assert "exit status 3: " in said and "without an edge" in said and "has no segment" in said
+    assert "exit status 3: " in said and "area lost" in said and "--allow-undrawn" in said
 
 
 def test_line_with_status_3(path, capsys):
@@ -210,15 +219,22 @@ def test_wrong_command_lines(arguments, capsys):
 @pytest.mark.parametrize("more,words", [
     (["--picture", "a.bmp"], "a picture is"),
     (["--report", "a.txt"], "a report is"),
-    (["--normal", "0,0,0"], "no direction"),
-    (["--normal", "0,1"], "as many numbers"),
     (["--picture", "a.svg", "--colour", "heat"], "no cell field 'heat'"),
-    (["--vtk", "a.nosuch"], "cannot write"),
-    (["--report", "/nowhere/a.json"], "/nowhere/a.json: No such file"),
+    (["--picture", "a.svg", "--colour", "group"], "no groups of cells"),
+    (["--vtk", "a.nosuch"], "can hold polygons is"),
+    (["--vtk", "a.stl"], "can hold polygons is"),
+    (["--table", "a.txt"], "a table is"),
+    (["--report", "/nowhere/a.json"], "/nowhere/a.json: there is no folder"),
 ])
 def test_other_errors(path, tmp_path, monkeypatch, capsys, more, words):
     monkeypatch.chdir(tmp_path)
     assert run("plane", path, *PLANE, *more) == 1
+    assert words in capsys.readouterr().err
+
+
+@pytest.mark.parametrize("normal,words", [("0,0,0", "no direction"), ("0,1", "as many numbers")])
+def test_normals_that_are_refused(path, capsys, normal, words):
+    assert run("plane", path, "--origin", "0,0,0", "--normal", normal) == 1
     assert words in capsys.readouterr().err
 
 
