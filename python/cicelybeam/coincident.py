@@ -20,7 +20,7 @@ def coinciding(points: np.ndarray, nodes: np.ndarray, ends: np.ndarray, tol: flo
         return first
     starts = np.concatenate([[0], ends[:-1]])
     lengths = ends - starts
-    place = (np.add.reduceat(points[nodes], starts, axis=0) / lengths[:, None]) @ ACROSS
+    place = np.add.reduceat((points @ ACROSS)[nodes], starts) / lengths
     order = np.argsort(place)
     for step in range(1, min(NEIGHBOURS, len(order))):
         a, b = order[:-step], order[step:]
@@ -30,8 +30,8 @@ def coinciding(points: np.ndarray, nodes: np.ndarray, ends: np.ndarray, tol: flo
         pairs = np.stack([a, b], axis=1)[near & (lengths[a] == lengths[b])]
         for one, other in pairs[_match(points, nodes, starts, lengths, pairs, 2 * tol)].tolist():
             _join(first, one, other)
-    for k in range(len(first)):
-        first[k] = first[first[k]]
+    for k in np.flatnonzero(first != np.arange(len(first))):
+        first[k] = _root(first, int(k))
     return first
 
 

@@ -25,6 +25,19 @@ for _name in (*IN_SPACE, *IN_PLANE, "quad6"):
 CHUNK = 1 << 18  # cells looked at in one go, so that what is worked out of them stays small
 
 
+def _folded(fold: np.ufunc, bits: np.ndarray) -> np.ndarray:
+    """The columns of rows of bytes folded into one."""
+    if bits.shape[1] in (4, 8) and bits.dtype == np.uint8 and fold in (np.bitwise_and, np.bitwise_or):
+        rows = bits.view(f"u{bits.shape[1]}").ravel()  # a row is one number, whose halves are folded
+        for half in (32, 16, 8)[1 if bits.shape[1] == 4 else 0 :]:
+            rows = fold(rows, rows >> np.array(half, rows.dtype))
+        return rows.astype(np.uint8)
+    found = bits[:, 0].copy()
+    for k in range(1, bits.shape[1]):
+        fold(found, bits[:, k], out=found)
+    return found
+
+
 @dataclass
 class Block:
     """Cells of one type in a row. `first` is the number of its first cell in the mesh."""
@@ -38,7 +51,7 @@ class Block:
         return len(self.nodes)
 
     def corners(self, cells: np.ndarray | slice = slice(None)) -> np.ndarray:
-        return self.nodes[cells, : self.kind.corners]
+        return self.nodes[cells][..., : self.kind.corners]
 
     def all_corners(self) -> np.ndarray:
         return self.corners().ravel()
@@ -49,10 +62,7 @@ class Block:
         found = np.empty(len(corners), dtype=of_node.dtype)
         for start in range(0, len(corners), CHUNK):
             bits = of_node.take(corners[start : start + CHUNK])
-            part = found[start : start + CHUNK]
-            part[:] = bits[:, 0]
-            for k in range(1, bits.shape[1]):
-                fold(part, bits[:, k], out=part)
+            found[start : start + CHUNK] = _folded(fold, bits)
         return found
 
     def handed(self, cells: np.ndarray) -> tuple[np.ndarray, np.ndarray]:
@@ -63,7 +73,7 @@ class Block:
             rows = self.nodes[np.asarray(cells)[:, None], places]
             rows[:, places < 0] = -1  # FACE_END, as the bits of a 64-bit whole number
         else:
-            rows = self.nodes[cells, : self.kind.nodes]
+            rows = self.nodes[cells][:, : self.kind.nodes]
         return rows.ravel(), np.arange(len(rows) + 1) * rows.shape[1]
 
     def faces(self, index: int) -> list[np.ndarray]:
@@ -146,8 +156,11 @@ class Mesh:
     @property
     def extent(self) -> list[list[float]]:
         """The least and the greatest of each coordinate of its nodes, NaN left out."""
-        known = self.points[~np.isnan(self.points).any(axis=1)]
-        return [known.min(axis=0).tolist(), known.max(axis=0).tolist()] if len(known) else []
+        known = self.points
+        if len(known) and np.isnan(known.sum()):
+            known = known[~np.isnan(known).any(axis=1)]
+        columns = [known[:, k] for k in range(self.dimension)]
+        return [[float(c.min()) for c in columns], [float(c.max()) for c in columns]] if len(known) else []
 
     def centre(self) -> tuple[float, ...] | None:
         """A place amid the nodes: the median of each coordinate, of a thousand nodes at most, so that a few far away do not matter."""

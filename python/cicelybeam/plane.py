@@ -205,7 +205,7 @@ class _Cut:
         near = place.nearest_in_plane(asked.origin, asked.normal, mesh.centre() or asked.origin)
         self.frame, self.near = (replace(given, origin=place.moved(origin, given.normal, asked.shift)) for origin in (asked.origin, near))
         self.sides = place.sides(mesh.points, self.near.origin, self.near.normal, asked.tol)
-        self.cutter = Cutter(mesh, self.near.origin, asked.normal, asked.tol)
+        self.cutter = Cutter(mesh, self.near.origin, asked.normal, asked.tol, asked.own)
 
     def result(self) -> PlaneCut:
         reached = self._reached()

@@ -35,59 +35,59 @@ class Rings:
 
 
 def simple_rings(loops: Loops) -> Rings:
-    special = _special_cells(loops)
+    around = Around(loops.points, loops.nodes, loops.ends)
+    special = _special_cells(loops, around)
+    if not len(special):
+        count = len(loops.ends)
+        return Rings(loops.points, loops.nodes, loops.ends, loops.cell, around.areas(), np.zeros(count, dtype=bool), np.arange(count), 0, 0)
     ordinary = ~np.isin(loops.cell, special)
     lengths = np.diff(loops.ends, prepend=0)
     rings = Rings(loops.points, loops.nodes[np.repeat(ordinary, lengths)], np.cumsum(lengths[ordinary]), loops.cell[ordinary],
                   np.zeros(0), np.zeros(ordinary.sum(), dtype=bool), np.arange(ordinary.sum()), 0, 0)
-    if len(special):
-        _add_special(rings, loops, np.flatnonzero(~ordinary))
-    rings.area = signed_areas(rings.points, rings.nodes, rings.ends)
+    _add_special(rings, loops, np.flatnonzero(~ordinary))
+    rings.area = Around(rings.points, rings.nodes, rings.ends).areas()
     return rings
 
 
-def signed_areas(points: np.ndarray, nodes: np.ndarray, ends: np.ndarray) -> np.ndarray:
-    """The area of each ring, negative where it is clockwise, from its first point so that a distant origin costs no digits."""
-    if not len(ends):
-        return np.zeros(0)
-    starts, corner, after = _from_first(points, nodes, ends)
-    return 0.5 * np.add.reduceat(corner[:, 0] * after[:, 1] - after[:, 0] * corner[:, 1], starts)
+class Around:
+    """The corners of rings, x and y, each from its ring's first so that a distant origin costs no digits."""
+
+    def __init__(self, points: np.ndarray, nodes: np.ndarray, ends: np.ndarray) -> None:
+        self.starts = np.concatenate([[0], ends[:-1]]) if len(ends) else ends
+        self.lengths = np.diff(ends, prepend=0)
+        self.following = np.arange(1, len(nodes) + 1)
+        if len(ends):
+            self.following[ends - 1] = self.starts
+        first = np.repeat(nodes[self.starts], self.lengths)
+        self.x, self.y = (column[nodes] - column[first] for column in (points[:, 0], points[:, 1]))
+
+    def areas(self) -> np.ndarray:
+        """The area of each ring, negative where it is clockwise."""
+        x, y = self.x[self.following], self.y[self.following]
+        return 0.5 * self.each(np.add, self.x * y - x * self.y)
+
+    def each(self, fold: np.ufunc, values: np.ndarray) -> np.ndarray:
+        """These values, one for each corner, folded for each ring."""
+        return fold.reduceat(values, self.starts) if len(self.starts) else np.zeros(0, dtype=values.dtype)
+
+    def convex(self) -> np.ndarray:
+        """For each ring: whether it turns left all around, but for rounding, and goes around once; then it cannot cross itself."""
+        dx, dy = (a[self.following] - a for a in (self.x, self.y))
+        turn = dx * dy[self.following] - dx[self.following] * dy
+        size = self.each(np.maximum, np.maximum(np.abs(self.x), np.abs(self.y)))
+        upward = dx > 0
+        changes = self.each(np.add, (upward != upward[self.following]).astype(np.int32))
+        return (self.each(np.minimum, turn) >= -1e-12 * size**2) & (changes <= 2)
 
 
-def _from_first(points: np.ndarray, nodes: np.ndarray, ends: np.ndarray) -> tuple[np.ndarray, np.ndarray, np.ndarray]:
-    """Where each ring starts, each corner from its ring's first, and the corner that follows it."""
-    starts = np.concatenate([[0], ends[:-1]])
-    following = np.arange(1, len(nodes) + 1)
-    following[ends - 1] = starts
-    corner = points[nodes] - np.repeat(points[nodes[starts]], ends - starts, axis=0)
-    return starts, corner, corner[following]
-
-
-def _special_cells(loops: Loops) -> np.ndarray:
-    """Cells with several loops, with a point that loops pass through twice, or with a loop that may cross itself."""
+def _special_cells(loops: Loops, around: Around) -> np.ndarray:
+    """Cells with several loops, with a point that loops pass through twice, or with a loop that crosses itself."""
     several = loops.cell[1:][loops.cell[1:] == loops.cell[:-1]]
-    lengths = np.diff(loops.ends, prepend=0)
-    twice = np.bincount(loops.nodes, minlength=1)[loops.nodes] > 1
-    found = [several, np.repeat(loops.cell, lengths)[twice]]
-    if len(loops.ends):
-        bent = np.flatnonzero(~_convex(loops))
-        found.append(loops.cell[[k for k in bent if not Polygon(loops.points[_row(loops, k)]).is_valid]])
-    return np.unique(np.concatenate(found))
-
-
-def _convex(loops: Loops) -> np.ndarray:
-    """For each loop: whether it turns left all around, but for rounding, and goes around once; then it cannot cross itself."""
-    starts, corner, after = _from_first(loops.points, loops.nodes, loops.ends)
-    lengths = np.diff(loops.ends, prepend=0)
-    step = after - corner
-    following = np.arange(1, len(step) + 1)
-    following[loops.ends - 1] = starts
-    turn = step[:, 0] * step[following, 1] - step[following, 0] * step[:, 1]
-    size = np.repeat(np.maximum.reduceat(np.abs(corner).max(axis=1), starts), lengths)
-    left = np.minimum.reduceat(turn + 1e-12 * size**2, starts) >= 0
-    upward = step[:, 0] > 0
-    around = np.add.reduceat((upward != upward[following]).astype(int), starts)
-    return left & (around <= 2)
+    twice = np.flatnonzero(np.bincount(loops.nodes, minlength=1) > 1)
+    through = np.repeat(loops.cell, around.lengths)[np.isin(loops.nodes, twice)] if len(twice) else several[:0]
+    bent = np.flatnonzero(~around.convex())
+    crossing = loops.cell[[k for k in bent if not Polygon(loops.points[_row(loops, k)]).is_valid]]
+    return np.unique(np.concatenate([several, through, crossing]))
 
 
 def _row(loops: Loops, k: int) -> np.ndarray:
