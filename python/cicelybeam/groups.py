@@ -87,4 +87,4 @@ def check_by(mesh: Mesh, by: str) -> None:
     known = ["type", "cell", *(["group"] if mesh.group is not None else []), *(n for n, v in mesh.fields.items() if v.ndim == 1)]
     if by not in known:
         what = "no groups of cells" if by == "group" else f"no cell field {by!r} of one number a cell"
-        raise CicelybeamError(f"{mesh.source}: there is {what}; there is {', '.join(known)}")
+        raise CicelybeamError(f"{mesh.source}: it has {what}; its cells are told apart by {', '.join(known)}")

@@ -32,7 +32,7 @@ code, pre { font: 9pt/1.35 monospace; overflow-wrap: anywhere; white-space: pre-
 .status { padding: 2mm 3mm; border: 1px solid #202020 } .status.lost { border-width: 0.8mm }
 @page { size: A4; margin: 14mm }
 @media print { body { max-width: none; margin: 0; padding: 0; font-size: 10pt } .claims { display: none }
-  h2 { break-after: avoid } figure, tr, blockquote { break-inside: avoid } a { color: inherit } thead { display: table-header-group } }
+  h2 { break-after: avoid } figure, tr, li, blockquote { break-inside: avoid } a { color: inherit } thead { display: table-header-group } }
 """
 
 
@@ -48,11 +48,13 @@ def write_page(cut: PlaneCut | LineCut, path: str | Path, command: str | None = 
 
 def page(cut: PlaneCut | LineCut, command: str | None = None, **look: object) -> str:
     name = escape(Path(cut.mesh.source).name)
+    found = findings(cut)
     parts = [
         f'<!doctype html>\n<html lang="en"><head><meta charset="utf-8"><title>Section of {name}</title>\n<style>{CSS}</style></head><body>',
         f"<h1>Section of {name}</h1>", _status(cut), _figure(cut, look),
         f"<h2>In one sentence</h2><blockquote>{escape(cut.record.sentence())}</blockquote>",
-        f"<h2>The record</h2>{_record(cut)}", _areas(cut), _missing(findings(cut)), _proved(cut), _made(cut, command), _claims(), "</body></html>\n",
+        f"<h2>The record</h2>{_record(cut)}", _areas(cut),
+        _missing(found), _proved(cut), _made(cut, command), _touched(found), _claims(), "</body></html>\n",
     ]
     return "\n".join(parts)
 
@@ -63,7 +65,10 @@ def _status(cut: PlaneCut | LineCut) -> str:
     if not reasons:
         what = "no area is lost" if isinstance(cut, PlaneCut) else "no piece is known to be missing"
         return f'<p class="status">Every cell that the cut reaches was cut, and {what}.</p>'
-    return '<p class="status lost">' + "<br>".join(f"Not whole: {escape(why)} (exit status {status})." for status, why in reasons) + "</p>"
+    lines = [f"Not whole: {escape(why)} (exit status {status})." for status, why in reasons]
+    advice = getattr(cut.record, "advice", "")
+    lines += [f"{escape(advice[0].upper() + advice[1:])}."] if advice else []
+    return f'<p class="status lost">{"<br>".join(lines)}</p>'
 
 
 def _figure(cut: PlaneCut | LineCut, look: dict) -> str:
@@ -84,9 +89,6 @@ def _figure(cut: PlaneCut | LineCut, look: dict) -> str:
 def _record(cut: PlaneCut | LineCut) -> str:
     lines = str(cut.record).split("\n\n")[0].split("\n")
     rows = [f"<tr><th>{escape(line[:18].strip())}</th><td>{escape(line[18:])}</td></tr>" for line in lines]
-    if isinstance(cut, PlaneCut):
-        rows += [f"<tr><th>{name}</th><td>along {escape(str(tuple(axis)))}, from the origin</td></tr>"
-                 for name, axis in (("u", cut.frame.u), ("v", cut.frame.v))]
     return f"<table>{''.join(rows)}</table>"
 
 
@@ -107,13 +109,22 @@ def _areas(cut: PlaneCut | LineCut) -> str:
 
 
 def _missing(found: list[Finding]) -> str:
-    if not found:
-        return "<h2>What is missing</h2><p>No cell has edges that are not drawn, area lost, or is not cut.</p>"
+    lost = [f for f in found if not f.touched]
+    head = "<h2>What is missing</h2>"
+    return head + (_cells(lost) if lost else "<p>No cell has area lost, and none that the cut reaches is left uncut.</p>")
+
+
+def _touched(found: list[Finding]) -> str:
+    touched = [f for f in found if f.touched]
+    return f"<h2>Touched, with edges that are not drawn and bound no area</h2>{_cells(touched)}" if touched else ""
+
+
+def _cells(found: list[Finding]) -> str:
     body = "".join(
         f'<tr><td class="n">{f.cell}</td><td>{escape(f.type)}</td><td>{escape(f.reason)}</td>'
         f'<td class="n">{"" if f.lost_area is None else f"{f.lost_area:.3g}"}</td><td>{escape(_point(f.near))}</td></tr>' for f in found)
     head = '<tr><th class="n">cell</th><th>type</th><th>reason</th><th class="n">area lost, about</th><th>near</th></tr>'
-    return f"<h2>What is missing</h2><table><thead>{head}</thead><tbody>{body}</tbody></table>"
+    return f"<table><thead>{head}</thead><tbody>{body}</tbody></table>"
 
 
 def _point(numbers: list[float]) -> str:

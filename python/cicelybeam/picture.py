@@ -11,7 +11,7 @@ from matplotlib.cm import ScalarMappable
 from matplotlib.collections import LineCollection, PathCollection
 from matplotlib.colors import Normalize
 from matplotlib.figure import Figure
-from matplotlib.patches import Patch, PathPatch
+from matplotlib.patches import Patch
 from matplotlib.path import Path as Outline
 
 from .groups import check_by, classes, has_classes
@@ -30,6 +30,7 @@ HATCHES = ("", "////", "....", "xxxx")  # for the second, third and fourth time 
 RED, INK, GREY = "#d00000", "#202020", "#303030"
 SCALE = "viridis"  # its luminance grows from end to end
 IN_ONE = 1000  # polygons of one class in one path
+THINNEST = 0.03  # points (1/72 inch); edges that would be thinner are left out
 STYLE = {
     "svg.fonttype": "none", "svg.hashsalt": "cicelybeam", "pdf.fonttype": 42, "ps.fonttype": 42, "hatch.linewidth": 0.4,
     "font.size": 8, "axes.labelsize": 8, "legend.fontsize": 7.5, "axes.linewidth": 0.6,
@@ -107,7 +108,7 @@ def _words(text: str) -> str:
 
 
 def _short(numbers: object) -> str:
-    return "(" + ", ".join(f"{x:.4g}" for x in numbers) + ")"
+    return "(" + ", ".join(f"{round(x, 12) + 0.0:.4g}" for x in numbers) + ")"
 
 
 @dataclass
@@ -134,12 +135,12 @@ class _Rings:
         return Outline(self.points[self.nodes[np.repeat(self.starts[chosen], lengths) + step]], codes)
 
     def middling_size(self) -> float:
-        """The side of a square as large as the middling ring."""
+        """The width or height of the middling ring, whichever is less."""
         if not len(self.ends):
             return 1.0
         corners = self.points[self.nodes]
         spans = np.maximum.reduceat(corners, self.starts) - np.minimum.reduceat(corners, self.starts)
-        return float(np.sqrt(np.median(spans[:, 0] * spans[:, 1]))) or 1.0
+        return float(np.median(spans.min(axis=1)))
 
 
 def shades(count: int) -> list[tuple[str, str]]:
@@ -160,38 +161,41 @@ def _fill(sheet: Sheet, mesh: Mesh, rings: _Rings, look: Look) -> None:
     def thin(points_to_one: float) -> None:
         width = {"on": 0.4, "off": 0.0}.get(look.edges, min(0.4, 0.05 * size * points_to_one))
         for patch in patches:
-            patch.set_linewidth(max(width, 0.15))
-            patch.set_edgecolor(GREY if width >= 0.02 else "face" if isinstance(patch, PathCollection) else patch.get_facecolor())
+            patch.set_linewidth(width if width >= THINNEST else 0.15)
+            patch.set_edgecolor(GREY if width >= THINNEST else "face")
 
     sheet.when_scaled.append(thin)
 
 
-def _by_class(sheet: Sheet, mesh: Mesh, rings: _Rings, look: Look) -> list:
+def _by_class(sheet: Sheet, mesh: Mesh, rings: _Rings, look: Look) -> list[PathCollection]:
     names, index = classes(mesh, rings.cells, look.colour)
-    patches = []
-    for k, (name, (fill, hatch)) in enumerate(zip(names, shades(len(names)))):
-        chosen = np.flatnonzero(index == k)
-        for start in range(0, len(chosen), IN_ONE):
-            patch = PathPatch(rings.outline(chosen[start : start + IN_ONE]), facecolor=fill, hatch=hatch, joinstyle="round")
-            patches.append(sheet.axes.add_patch(patch))
+    fills = shades(len(names))
+    for name, (fill, hatch) in zip(names, fills):
         sheet.handles.append(Patch(facecolor=fill, hatch=hatch, edgecolor=GREY, linewidth=0.4, label=_words(name)))
-    return patches
+    return [_patch(sheet, rings, np.flatnonzero(index == k), fill, hatch) for k, (fill, hatch) in enumerate(fills)]
 
 
-def _by_value(sheet: Sheet, mesh: Mesh, rings: _Rings, look: Look) -> list:
-    order = np.argsort(rings.cells, kind="stable")
-    cells, first = np.unique(rings.cells[order], return_index=True)
-    values = np.asarray(cells if look.colour == "cell" else mesh.fields[look.colour][cells], dtype=float)
-    known = values[np.isfinite(values)]
-    norm = Normalize(known.min(), known.max()) if len(known) else Normalize(0, 1)
-    colours = matplotlib.colormaps[SCALE].copy()
-    colours.set_bad("#ffffff")
-    outlines = [rings.outline(part) for part in np.split(order, first[1:])] if len(cells) else []
-    found = PathCollection(outlines, facecolors=colours(norm(np.ma.masked_invalid(values))), joinstyle="round")
-    sheet.axes.add_collection(found, autolim=False)
+def _by_value(sheet: Sheet, mesh: Mesh, rings: _Rings, look: Look) -> list[PathCollection]:
+    """The scale has 256 colours, so rings of one colour are one patch. What is not finite is white."""
+    values = np.asarray(rings.cells if look.colour == "cell" else mesh.fields[look.colour][rings.cells], dtype=float)
+    known = np.isfinite(values)
+    norm = Normalize(values[known].min(), values[known].max()) if known.any() else Normalize(0, 1)
+    colours = matplotlib.colormaps[SCALE]
+    level = np.full(len(values), -1)
+    level[known] = np.clip(norm(values[known]) * colours.N, 0, colours.N - 1).astype(int)
     sheet.scale = ScalarMappable(norm, SCALE)
     sheet.scale_label = _words(look.colour)
-    return [found]
+    order = np.argsort(level, kind="stable")
+    levels, first = np.unique(level[order], return_index=True)
+    parts = np.split(order, first[1:]) if len(levels) else []
+    return [_patch(sheet, rings, part, "#ffffff" if k < 0 else colours(int(k))) for k, part in zip(levels, parts)]
+
+
+def _patch(sheet: Sheet, rings: _Rings, chosen: np.ndarray, fill: object, hatch: str = "") -> PathCollection:
+    outlines = [rings.outline(chosen[start : start + IN_ONE]) for start in range(0, len(chosen), IN_ONE)]
+    patch = PathCollection(outlines, facecolors=[fill], hatch=hatch, joinstyle="round")
+    sheet.axes.add_collection(patch, autolim=False)
+    return patch
 
 
 def _section(cut: PlaneCut, look: Look) -> Sheet:
@@ -200,11 +204,13 @@ def _section(cut: PlaneCut, look: Look) -> Sheet:
     points = project(space) if len(space) else np.zeros((0, 2))
     sheet = Sheet(*labels, equal=True)
     _fill(sheet, cut.mesh, _Rings(points, cut.nodes, cut.ends, cut.polygon_cell), look)
+    lost = {cell.cell for cell in cut.record.lost_cells}
     edges = undrawn_edges(cut)
-    if edges:
-        lines = points[np.array([edge for _, edge in edges])]
-        sheet.axes.add_collection(LineCollection(lines, colors=RED, linewidths=1.0, zorder=4), autolim=False)
-        sheet.show(lines.reshape(-1, 2))
+    for colour, width, chosen in ((INK, 0.6, [e for cell, e in edges if cell not in lost]), (RED, 1.0, [e for cell, e in edges if cell in lost])):
+        if chosen:
+            lines = points[np.array(chosen)]
+            sheet.axes.add_collection(LineCollection(lines, colors=colour, linewidths=width, zorder=4), autolim=False)
+            sheet.show(lines.reshape(-1, 2))
     _mark(sheet, findings(cut), project)
     record = cut.record
     words = f"{number(record.polygons, 'polygon')}, area {record.area:.6g}"
@@ -259,7 +265,8 @@ def _line_in_plane(cut: LineCut, look: Look) -> Sheet:
     lengths = np.concatenate([np.full(len(block), block.kind.corners) for block in blocks])
     cells = np.concatenate([block.first + np.arange(len(block)) for block in blocks])
     _fill(sheet, cut.mesh, _Rings(cut.mesh.points, np.concatenate([b.corners().ravel() for b in blocks]), np.cumsum(lengths), cells), look)
-    sheet.axes.add_collection(LineCollection(cut.segments, colors=INK, linewidths=1.4, zorder=4), autolim=False)
+    for colour, width in (("white", 3.0), (INK, 1.4)):  # to be seen on dark cells too
+        sheet.axes.add_collection(LineCollection(cut.segments, colors=colour, linewidths=width, zorder=4), autolim=False)
     sheet.handles += sheet.axes.plot(*cut.segments.reshape(-1, 2).T, ".", color=INK, markersize=4, zorder=4,
                                      label=f"on the line: {number(len(cut), 'segment')}")
     _mark(sheet, findings(cut), np.asarray)

@@ -214,6 +214,7 @@ class PlaneRecord:
             ("cells", f"{self.cells}: {counted(self.cells_by_type)}"),
             ("not cut", self._not_cut()),
             ("plane", f"through {vector(self.origin)}, normal {vector(self.normal)}"),
+            ("its axes", f"u along {vector(self.u)}, v along {vector(self.v)}"),
             *shift,
             ("tolerance", f"{self.tolerance:.6g} (the mesh's own: {self.mesh_tolerance:.6g})"),
             ("passed through", f"{number(self.crossed, 'cell')}; {number(self.with_edges, 'cell')} with an edge"),

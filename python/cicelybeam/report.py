@@ -68,12 +68,15 @@ def as_json(cut: PlaneCut | LineCut, command: str | None = None) -> str:
 
 
 def _lines(value: object) -> str:
-    if isinstance(value, list) and value and isinstance(value[0], dict):
-        return "[\n" + ",\n".join(map(_lines, value)) + "\n]"
     try:
-        return json.dumps(value, allow_nan=False)
+        text = json.dumps(value, allow_nan=False)
     except ValueError:
-        return json.dumps(_plain(value))
+        text = json.dumps(_plain(value))
+    if isinstance(value, list) and value and isinstance(value[0], dict):
+        if text.count("}, {") != len(value) - 1:  # a name has these signs in it
+            return "[\n" + ",\n".join(map(_lines, value)) + "\n]"
+        text = "[\n" + text[1:-1].replace("}, {", "},\n{") + "\n]"
+    return text
 
 
 def _plain(value: object) -> object:

@@ -82,7 +82,8 @@ class Sheet:
         least = max(span.max(), abs(self.low).max() * 1e-9, 1e-300) if self.equal else 0.0
         span = np.maximum(span, 1e-3 * least) if self.equal else np.where(span > 0, span, 1.0)
         middle = (self.low + self.high) / 2
-        return middle - 0.52 * span, 1.04 * span
+        span = (1.04 if self.equal else 1.12) * span
+        return middle - span / 2, span
 
     def _first_box(self, ratio: float) -> tuple[float, float]:
         if not self.equal:

@@ -22,6 +22,11 @@ class Finding:
     lost_area: float | None  # an estimate, where there is one
     near: list[float]
 
+    @property
+    def touched(self) -> bool:
+        """Whether no area is lost."""
+        return self.reason.startswith("touched")
+
     def as_dict(self) -> dict:
         return asdict(self)
 
