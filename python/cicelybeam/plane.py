@@ -98,8 +98,9 @@ class PlaneCut(Published):
         Where there is none and this plane loses area, the nearest that loses none; None where there is neither. The record
         keeps it, and how far was looked: by default 1e-6 of the mesh's extent.
         """
-        def drawn_at(mesh: Mesh, shift: float) -> Drawn:
-            return _Cut(mesh, replace(self.asked, shift=shift), True, None).result().record.drawn
+        def drawn_at(mesh: Mesh, shift: float) -> tuple[Drawn, float]:
+            found = _Cut(mesh, replace(self.asked, shift=shift), True, None).result().record
+            return found.drawn, found.area
 
         record, tol = self.record, max(self.asked.tol, self.asked.own)
         record.shift_most = MOST * extent_of(self.mesh) if most is None else most

@@ -22,22 +22,24 @@ class Drawn(IntEnum):
     ALL = 2  # every edge
 
 
-def nearest_shift(mesh: Mesh, frame: Frame, tol: float, drawn_at: Callable[[Mesh, float], Drawn], most: float, enough: Drawn) -> float | None:
+def nearest_shift(mesh: Mesh, frame: Frame, tol: float, drawn_at: Callable[[Mesh, float], tuple[Drawn, float]], most: float,
+                  enough: Drawn) -> float | None:
     """How far along the normal, or against it, the first plane is that draws everything; else the first that draws enough.
 
-    Planes are tried on both sides in growing steps, up to `most` away. Cells that none of them reaches are left out once and
-    for all.
+    `drawn_at` tells how much of a section is drawn, and its area. Planes are tried on both sides in growing steps, up to `most`
+    away; of two as far away the one with the larger area is taken, and none that has left the mesh. Cells that no plane
+    reaches are left out once and for all.
     """
     slab = place.sides(mesh.points, frame.origin, frame.normal, most + 2 * tol)
     near = replace(mesh, blocks=_kept(mesh, slab))
     second = None
     for step in _steps(2 * tol, most):
-        for shift in (step, -step):
-            found = drawn_at(near, shift)
-            if found == Drawn.ALL:
-                return shift
-            if second is None and found >= enough:
-                second = shift
+        found = [(*drawn_at(near, shift), shift) for shift in (step, -step)]
+        found = [plane for plane in found if plane[0] >= enough and plane[1] > 0]
+        drawn, _, shift = max(found, default=(Drawn.NOT_ALL, 0.0, None), key=lambda plane: plane[:2])
+        if drawn == Drawn.ALL:
+            return shift
+        second = shift if second is None else second
     return second
 
 

@@ -31,18 +31,24 @@ def cutter(grid, origin, normal, kind="vtkCutter"):
     found.SetInputData(grid)
     if kind == "vtkCutter":
         found.SetCutFunction(plane)
-        found.SetGenerateTriangles(True)
-        found.SetOutputPointsPrecision(1)  # double
+        found.SetGenerateTriangles(False)  # polygons; triangles are quicker and less exact
+        found.SetOutputPointsPrecision(1)  # 64-bit floats
     else:
         found.SetPlane(plane)
     return found
 
 
 def area_of(polygons) -> float:
+    """The sum of the polygons' areas, each half the length of the sum of its corners' cross products."""
     points = numpy_support.vtk_to_numpy(polygons.GetPoints().GetData()).astype(float)
-    corners = numpy_support.vtk_to_numpy(polygons.GetPolys().GetConnectivityArray()).reshape(-1, 3)
-    a, b, c = (points[corners[:, k]] for k in range(3))
-    return float(0.5 * np.linalg.norm(np.cross(b - a, c - a), axis=1).sum())
+    cells = polygons.GetPolys()
+    starts = numpy_support.vtk_to_numpy(cells.GetOffsetsArray())
+    corners = points[numpy_support.vtk_to_numpy(cells.GetConnectivityArray())]
+    total = 0.0
+    for first, after in zip(starts, starts[1:]):
+        around = corners[first:after] - corners[first]
+        total += 0.5 * np.linalg.norm(np.cross(around[:-1], around[1:]).sum(axis=0))
+    return total
 
 
 def area(mesh, origin, normal) -> float:

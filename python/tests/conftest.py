@@ -31,3 +31,15 @@ def box(n: int, kind: str = "hexahedron", size=(1.0, 1.0, 1.0)) -> meshio.Mesh:
 @pytest.fixture
 def cube() -> meshio.Mesh:
     return box(1)
+
+
+def stack(below: int, above: int, width: float = 1.0) -> meshio.Mesh:
+    """A layer of below x below bricks under one of above x above, which is as wide as said along x; z = 0 is between them."""
+    layers = []
+    for n, size, base in ((below, (1.0, 1.0, 1.0), -1.0), (above, (width, 1.0, 1.0), 0.0)):
+        steps = np.linspace(0, 1, n + 1)
+        points = np.array([(x, y, z) for x in steps for y in steps for z in (0, 1)]) * size + [0, 0, base]
+        i, j = (a.ravel() for a in np.meshgrid(*2 * [np.arange(n)], indexing="ij"))
+        layers.append((points, np.stack([((i + a) * (n + 1) + j + b) * 2 + c for a, b, c in CUBE.astype(int)], -1)))
+    (points, cells), (more, others) = layers
+    return meshio.Mesh(np.concatenate([points, more]), [("hexahedron", np.concatenate([cells, others + len(points)]))])
