@@ -11,6 +11,9 @@ def main(arguments: list[str] | None = None) -> int:
 
         return command(arguments)
     except KeyboardInterrupt:
+        from .outputs import remove_begun
+
+        remove_begun()
         print("cicelybeam: interrupted; no output is left half written", file=sys.stderr)
         return 130
 

@@ -225,12 +225,19 @@ def _run(given: argparse.Namespace) -> int:
         for warning in cut.record.warnings:
             print(f"cicelybeam: {warning}", file=sys.stderr)
     else:
-        _print(str(cut.record))
+        _print(_record(cut))
     _write(given, cut)
     status, reasons = _status(given, cut)
     for why in reasons:
         print(f"cicelybeam: {why}", file=sys.stderr)
     return status
+
+
+def _record(cut: PlaneCut | LineCut) -> str:
+    """The record, with a line for each group where the mesh has groups."""
+    lines, sentence = str(cut.record).rsplit("\n\n", 1)
+    groups = cut.area_by("group") if isinstance(cut, PlaneCut) and cut.mesh.group is not None else {}
+    return "\n".join([lines, *(f"{'group':<18}{name}: {area:.12g}" for name, area in groups.items()), "", sentence])
 
 
 def _to_screen(given: argparse.Namespace) -> bool:

@@ -12,6 +12,7 @@ from .mesh import Polyhedra
 from .plane import PlaneCut
 
 CHUNK = 1 << 16  # points looked at in one go
+NEIGHBOURS = 4  # a point is held against so many less one that follow it in its square
 
 
 def between_nodes(cut: PlaneCut) -> tuple[np.ndarray, np.ndarray]:
@@ -86,24 +87,23 @@ def welded(points: np.ndarray, within: float) -> tuple[np.ndarray, np.ndarray]:
     leader = np.arange(len(points))
     if within > 0 and len(points):
         for shift in ((0.0, 0.0), (0.5, 0.0), (0.0, 0.5), (0.5, 0.5)):
-            square = np.floor(points / (4 * within) + shift)
+            square = np.floor(points / (2 * within) + shift)
             order = np.lexsort((points[:, 1], points[:, 0], square[:, 1], square[:, 0]))
-            a, b = order[:-1], order[1:]
-            near = (square[a] == square[b]).all(axis=1) & (np.hypot(*(points[a] - points[b]).T) <= within)
-            leader = _joined(leader, a[near], b[near])
+            for step in range(1, NEIGHBOURS):
+                a, b = order[:-step], order[step:]
+                near = (square[a] == square[b]).all(axis=1) & (np.hypot(*(points[a] - points[b]).T) <= within)
+                leader = _joined(leader, a[near], b[near])
     firsts, number = np.unique(leader, return_inverse=True)
     return firsts, number
 
 
 def _joined(leader: np.ndarray, a: np.ndarray, b: np.ndarray) -> np.ndarray:
     """The least number of all that are joined, over these pairs and those before."""
-    while True:
+    while (leader[a] != leader[b]).any():
         least = np.minimum(leader[a], leader[b])
         found = leader.copy()
         for ends in (a, b):
             np.minimum.at(found, leader[ends], least)
             np.minimum.at(found, ends, least)
-        found = found[found]
-        if np.array_equal(found, leader):
-            return found
-        leader = found
+        leader = found[found]
+    return leader

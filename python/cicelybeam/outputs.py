@@ -2,8 +2,8 @@
 from __future__ import annotations
 
 import os
+import secrets
 import shutil
-import tempfile
 from collections.abc import Iterator
 from contextlib import contextmanager
 from pathlib import Path
@@ -45,6 +45,9 @@ def _same(a: Path, b: Path) -> bool:
         return os.path.realpath(a) == os.path.realpath(b)
 
 
+_begun: set[Path] = set()  # folders with files that are not whole yet
+
+
 @contextmanager
 def whole(path: str | Path) -> Iterator[Path]:
     """A name to write to, in a folder beside `path`. What was written is moved to `path` at the end of the block.
@@ -53,9 +56,10 @@ def whole(path: str | Path) -> Iterator[Path]:
     still there.
     """
     place = Path(os.path.realpath(path))  # a link stays a link
-    folder = None
+    folder = place.parent / f".cicelybeam-{secrets.token_hex(8)}"
+    _begun.add(folder)  # before it is made: Ctrl-C may come at any time
     try:
-        folder = Path(tempfile.mkdtemp(prefix=".cicelybeam-", dir=place.parent))
+        folder.mkdir(mode=0o700)
         written = folder / place.name
         yield written
         if place.exists():
@@ -64,5 +68,11 @@ def whole(path: str | Path) -> Iterator[Path]:
     except OSError as error:
         raise CicelybeamError(f"{path}: it cannot be written: {error.strerror or error}") from error
     finally:
-        if folder is not None:
-            shutil.rmtree(folder, ignore_errors=True)
+        remove_begun()
+
+
+def remove_begun() -> None:
+    """Removes what is not whole."""
+    while _begun:
+        shutil.rmtree(next(iter(_begun)), ignore_errors=True)
+        _begun.pop()

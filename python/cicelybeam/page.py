@@ -2,13 +2,11 @@
 from __future__ import annotations
 
 import base64
-import io
 import re
+from dataclasses import replace
 from html import escape
 from importlib.resources import files
 from pathlib import Path
-
-import matplotlib
 
 from . import picture
 from .areas import area_by, in_two
@@ -72,16 +70,12 @@ def _status(cut: PlaneCut | LineCut) -> str:
 
 
 def _figure(cut: PlaneCut | LineCut, look: dict) -> str:
-    wanted = picture._look(look)
-    kind = "png" if len(cut) > MOST_IN_SVG else "svg"
-    out = io.BytesIO()
-    with matplotlib.rc_context({**matplotlib.rcParamsDefault, **picture.STYLE}):
-        figure = picture.figure_of(cut, wanted)
-        figure.savefig(out, format=kind, dpi=wanted.dpi or 200, metadata={"Date": None} if kind == "svg" else None)
-    if kind == "png":
-        shown = f'<img alt="the section" src="data:image/png;base64,{base64.b64encode(out.getvalue()).decode()}">'
+    wanted = picture.look_of(look)
+    if len(cut) > MOST_IN_SVG:
+        png = picture.rendered(cut, replace(wanted, dpi=wanted.dpi or 200), ".png")
+        shown = f'<img alt="the section" src="data:image/png;base64,{base64.b64encode(png).decode()}">'
     else:
-        text = out.getvalue().decode()
+        text = picture.rendered(cut, wanted, ".svg").decode()
         shown = re.sub(r"<metadata>.*?</metadata>", "", text[text.index("<svg") :], flags=re.DOTALL)
     return f"<figure>{shown}</figure>"
 

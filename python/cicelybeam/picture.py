@@ -1,6 +1,7 @@
 """A picture of a cut by matplotlib. What was not drawn is marked."""
 from __future__ import annotations
 
+import io
 from collections.abc import Callable
 from dataclasses import dataclass, field
 from pathlib import Path
@@ -55,17 +56,19 @@ def draw(cut: PlaneCut | LineCut, path: str | Path, **look: object) -> None:
     A plane cut: the polygons, filled by it. A line cut of a plane mesh: the cells, filled by it, and the segments. A line
     cut in space: the segments by their place along the line, and across it as a profile.
     """
-    path, wanted = Path(path), _look(look)
+    path, wanted = Path(path), look_of(look)
     check_suffix(path, PICTURES, "a picture")
     check_places(cut.mesh.source, [path])
     check_by(cut.mesh, wanted.colour)
-    with matplotlib.rc_context({**matplotlib.rcParamsDefault, **STYLE}):
-        figure = figure_of(cut, wanted)
-        with whole(path) as place:
-            save(figure, place, wanted.dpi)
+    try:
+        contents = rendered(cut, wanted, path.suffix.lower())
+    except OSError as error:  # matplotlib writes some formats to a file of its own first
+        raise CicelybeamError(f"{path}: it cannot be drawn: {error.strerror or error}") from error
+    with whole(path) as place:
+        place.write_bytes(contents)
 
 
-def _look(given: dict[str, object]) -> Look:
+def look_of(given: dict[str, object]) -> Look:
     wanted = Look(**given)  # type: ignore[arg-type]
     if wanted.edges not in ("on", "off", "auto"):
         raise CicelybeamError(f"edges are on, off or auto, not {wanted.edges!r}")
@@ -92,14 +95,15 @@ def figure_of(cut: PlaneCut | LineCut, look: Look) -> Figure:
     return sheet.figure
 
 
-def save(figure: Figure, place: Path, dpi: float | None = None) -> None:
-    """The same cut gives the same file: no dates."""
-    kind = place.suffix.lower()
-    metadata = {".svg": {"Date": None}, ".pdf": {"CreationDate": None}}.get(kind)
-    figure.savefig(place, dpi=dpi or 300, metadata=metadata)
-    if kind == ".eps":
-        lines = place.read_bytes().split(b"\n")
-        place.write_bytes(b"\n".join(line for line in lines if not line.startswith((b"%%CreationDate", b"%%Title"))))
+def rendered(cut: PlaneCut | LineCut, look: Look, suffix: str) -> bytes:
+    """The contents of a picture's file. The same cut gives the same ones: no dates."""
+    out = io.BytesIO()
+    metadata = {".svg": {"Date": None}, ".pdf": {"CreationDate": None}}.get(suffix)
+    with matplotlib.rc_context({**matplotlib.rcParamsDefault, **STYLE}):
+        figure_of(cut, look).savefig(out, format=suffix[1:], dpi=look.dpi or 300, metadata=metadata)
+    if suffix != ".eps":
+        return out.getvalue()
+    return b"\n".join(line for line in out.getvalue().split(b"\n") if not line.startswith((b"%%CreationDate", b"%%Title")))
 
 
 def _words(text: str) -> str:
