@@ -34,6 +34,7 @@ class Sheet:
         self.handles: list = []
         self.scale: ScalarMappable | None = None
         self.scale_label = ""
+        self.gap = PAD  # inches between the axes and the scale
         self.when_scaled: list[Callable[[float], None]] = []  # called with the points (1/72 inch) to one in x
         self.low, self.high = np.full(2, np.inf), np.full(2, -np.inf)
 
@@ -130,7 +131,8 @@ class Sheet:
                   (inner.x0 - outer.x0, outer.x1 - inner.x1, inner.y0 - outer.y0, outer.y1 - inner.y1)]
         if bar is not None:
             reach = bar.yaxis.get_tightbbox(self.renderer).x1 - bar.get_window_extent(self.renderer).x1
-            around[1] = max(around[1], PAD + BAR + max(reach, 0) / self.figure.dpi + PAD)
+            self.gap = around[1]
+            around[1] += BAR + max(reach, 0) / self.figure.dpi + PAD
         if legend is not None:
             wide, high = self._size(legend)
             around[1 if beside else 2] += (wide if beside else high) + PAD
@@ -151,7 +153,7 @@ class Sheet:
         self.axes.set_position((left / page[0], below / page[1], wide / page[0], high / page[1]))
         self._set_limits(low, span, wide / high)
         if bar is not None:
-            bar.set_position(((left + wide + PAD) / page[0], below / page[1], BAR / page[0], high / page[1]))
+            bar.set_position(((left + wide + self.gap) / page[0], below / page[1], BAR / page[0], high / page[1]))
         if legend is not None:
             size = self._size(legend)
             x = page[0] - PAD - size[0] if beside else (page[0] - size[0]) / 2
