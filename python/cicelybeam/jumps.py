@@ -16,6 +16,9 @@ from .mesh import Block, Mesh, Polyhedra
 from .place import ABOVE, BELOW, Frame, Sides
 
 
+JUMP = 1e-9  # of the area: a jump that is told
+
+
 @dataclass(frozen=True)
 class Jumps:
     """The cells with such faces on the outside, and the area of the triangles."""

@@ -8,18 +8,15 @@ import meshio
 import numpy as np
 
 from . import place
-from .cells import Cutter, Loops, Progress, cells_with_gaps
-from .jumps import Jumps, find_jumps
+from .cells import Progress
 from .library import slice_tolerance
-from .lost import Lost, lost_area
 from .mesh import Mesh, of_meshio
-from .netarea import NetArea, net_area
-from .place import ABOVE, BELOW, Frame, Sides, Vector
+from .place import Frame
 from .publish import Published
 from .record import PlaneRecord, counted, plane_record
 from .refusal import MeshError
-from .rings import Rings, simple_rings
-from .shift import MOST, Drawn, extent_of, nearest_shift
+from .section import Asked, Section
+from .shift import LOOKED_AT, MOST, Drawn, Wanted, extent_of, nearest_shift
 
 
 @dataclass(repr=False)
@@ -98,29 +95,22 @@ class PlaneCut(Published):
         Where there is none and this plane loses area, the nearest that loses none; None where there is neither. The record
         keeps it, and how far was looked: by default 1e-6 of the mesh's extent.
         """
-        def drawn_at(mesh: Mesh, shift: float) -> tuple[Drawn, float]:
-            found = _Cut(mesh, replace(self.asked, shift=shift), True, None).result().record
-            return found.drawn, found.area
-
-        record, tol = self.record, max(self.asked.tol, self.asked.own)
+        record = self.record
         record.shift_most = MOST * extent_of(self.mesh) if most is None else most
+        if self.asked.tol < self.asked.own:  # gaps are everywhere then, and a shift does not close them
+            return None
         enough = Drawn.ALL if record.nothing_lost else Drawn.AREA
-        record.shift_that_draws_all = nearest_shift(self.mesh, self.near, tol, drawn_at, record.shift_most, enough)
+
+        def drawn_at(mesh: Mesh, shift: float) -> tuple[Drawn, float]:
+            found = Section(mesh, replace(self.asked, shift=shift))
+            return found.drawn(LOOKED_AT if enough == Drawn.AREA else 0), found.net.area
+
+        wanted = Wanted(enough, record.area + record.lost_area)
+        record.shift_that_draws_all = nearest_shift(self.mesh, self.near, self.asked.tol, drawn_at, record.shift_most, wanted)
         return record.shift_that_draws_all
 
     def __str__(self) -> str:
         return str(self.record)
-
-
-@dataclass(frozen=True)
-class Asked:
-    """What a cut was asked for: the plane as given, the tolerance and the mesh's own, and a distance along the unit normal."""
-
-    origin: Vector
-    normal: Vector
-    tol: float
-    own: float
-    shift: float = 0.0
 
 
 def cut_plane(
@@ -155,11 +145,20 @@ def cut_plane(
     own = slice_tolerance(found.points)
     tol = place.chosen_tolerance(tolerance, own, found.source)
     asked = Asked(origin, normal, tol, own)
-    cut = _Cut(found, asked, leave_out, progress).result()
-    if shift and cut.record.drawn != Drawn.ALL:
-        cut.look_for_shift(shift_most)
-        if cut.record.shift_that_draws_all:
-            return _Cut(found, replace(asked, shift=cut.record.shift_that_draws_all), leave_out, progress).result()
+    cut = _made(Section(found, asked, leave_out, progress))
+    if shift and not (cut.record.all_drawn and cut.record.nothing_lost):
+        distance = cut.look_for_shift(shift_most)
+        if distance:
+            return _made(Section(found, replace(asked, shift=distance), leave_out, progress))
+    return cut
+
+
+def _made(section: Section) -> PlaneCut:
+    rings, loops = section.rings, section.loops
+    offset = section.frame.in_plane(np.array([section.near.origin]))
+    cut = PlaneCut(section.mesh, section.frame, rings.points + offset, rings.nodes, rings.ends, rings.cell, rings.area, rings.hole, rings.outer,
+                   section.side, loops.cells, loops.counts, loops.cell_points, section.near, section.asked, None)  # type: ignore[arg-type]
+    cut.record = plane_record(cut, section)
     return cut
 
 
@@ -170,87 +169,3 @@ def _check(mesh: Mesh) -> None:
         raise MeshError(f"{mesh.source}: the mesh has no cells")
     if not any(map(len, mesh.blocks)):
         raise MeshError(f"{mesh.source}: no cell is of a type that is cut in space; it has {counted(mesh.not_cut())}")
-
-
-@dataclass
-class Reached:
-    """The cells of the mesh that were not left out, by what the plane does to them."""
-
-    handed_over: int
-    through: np.ndarray  # cells with a corner above the tolerance and one below its negative
-    above: np.ndarray  # cells with corners above and none below
-    within: np.ndarray  # cells with all corners within the tolerance of the plane
-    not_finite: np.ndarray  # cells with a corner coordinate that is NaN or infinite
-    curved: int  # cells with mid-side nodes
-    no_edge: np.ndarray  # cells that the plane passes through and that list no edge
-    no_segment: np.ndarray  # cells that list edges, with a face that has corners on both sides and no segment
-
-
-@dataclass
-class Findings:
-    """What was made of the answers, for the record."""
-
-    reached: Reached
-    rings: Rings
-    net: NetArea
-    lost: Lost
-    jumps: Jumps
-
-
-class _Cut:
-    """The calls for one plane, and what is made of their answers."""
-
-    def __init__(self, mesh: Mesh, asked: Asked, leave_out: bool, progress: Progress | None) -> None:
-        self.mesh, self.asked, self.leave_out, self.progress = mesh, asked, leave_out, progress
-        given = place.plane(asked.origin, asked.normal)
-        near = place.nearest_in_plane(asked.origin, asked.normal, mesh.centre() or asked.origin)
-        self.frame, self.near = (replace(given, origin=place.moved(origin, given.normal, asked.shift)) for origin in (asked.origin, near))
-        self.sides = place.sides(mesh.points, self.near.origin, self.near.normal, asked.tol)
-        self.cutter = Cutter(mesh, self.near.origin, asked.normal, asked.tol, asked.own)
-
-    def result(self) -> PlaneCut:
-        reached = self._reached()
-        loops = self.cutter.loops()
-        rings = simple_rings(loops)
-        side = np.where(np.isin(rings.cell, reached.above), 1, -1).astype(np.int8)
-        side[np.isin(rings.cell, reached.through)] = 0
-        net = net_area(rings, side, max(self.asked.own, self.asked.tol))
-        lost = self._lost(reached, loops, rings)
-        jumps = find_jumps(self.mesh, self.near, self.sides, reached.through)
-        offset = self.frame.in_plane(np.array([self.near.origin]))
-        cut = PlaneCut(self.mesh, self.frame, rings.points + offset, rings.nodes, rings.ends, rings.cell, rings.area, rings.hole,
-                       rings.outer, side, loops.cells, loops.counts, loops.cell_points, self.near, self.asked, None)  # type: ignore[arg-type]
-        cut.record = plane_record(cut, self.sides, Findings(reached, rings, net, lost, jumps))
-        return cut
-
-    def _lost(self, reached: Reached, loops: Loops, rings: Rings) -> Lost:
-        """Looks at every cell where something was not drawn."""
-        undrawn = loops.cells[(loops.counts[:, 2:] > 0).any(axis=1)]
-        doubtful = np.unique(np.concatenate([undrawn, reached.no_edge, reached.no_segment, reached.within]))
-        return lost_area(self.mesh, self.near, self.asked.normal, max(self.asked.own, self.asked.tol),
-                         np.setdiff1d(doubtful, reached.not_finite), reached.within, loops, rings)
-
-    def _reached(self) -> Reached:
-        """Cuts the cells that may have a segment."""
-        finite = np.isfinite(self.mesh.points).all(axis=1)
-        chosen = [np.flatnonzero(self.sides.reached(block)) for block in self.mesh.blocks]
-        handed = chosen if self.leave_out else [np.arange(len(block)) for block in self.mesh.blocks]
-        total, done, curved = sum(map(len, handed)), 0, 0
-        found: dict[str, list[np.ndarray]] = {name: [] for name in ("through", "above", "within", "not_finite", "no_edge", "no_segment")}
-        for block, kept, cells in zip(self.mesh.blocks, chosen, handed):
-            step = self.progress and (lambda k, done=done: self.progress(done + k, total))
-            listed = self.cutter.cut(block, cells, step)["listed"][np.searchsorted(cells, kept)]
-            done += len(cells)
-            curved += len(kept) if block.kind.curved else 0
-            met = self.sides.met(block, kept)
-            through = met == ABOVE | BELOW
-            edges = through & (listed > 0)
-            parts = {
-                "through": kept[through], "above": kept[met == ABOVE], "within": kept[met == 0],
-                "not_finite": kept[~block.folded(np.logical_and, finite, kept)] if not finite.all() else kept[:0],
-                "no_edge": kept[through & (listed == 0)],
-                "no_segment": cells_with_gaps(self.cutter, block, kept[edges], listed[edges], self.sides),
-            }
-            for name, part in parts.items():
-                found[name].append(part + block.first)
-        return Reached(total, curved=curved, **{name: np.concatenate(parts) for name, parts in found.items()})

@@ -7,15 +7,16 @@ from typing import TYPE_CHECKING
 
 import numpy as np
 
+from .jumps import JUMP
 from .place import Sides, distances
-from .shift import Drawn
 from .version import VERSION
 
 if TYPE_CHECKING:
-    from .plane import Findings, PlaneCut, Reached
+    from .mesh import Mesh
+    from .plane import PlaneCut
+    from .section import Section
 
 TOUCHING, LOST = "touching", "area lost"  # why something of a cell is not drawn
-JUMP = 1e-9  # of the area: a jump that is told
 
 
 @dataclass
@@ -106,11 +107,6 @@ class PlaneRecord:
         return all(status != 3 for status, _ in self.reasons)
 
     @property
-    def drawn(self) -> Drawn:
-        """How much of the section is drawn."""
-        return (Drawn.ALL if self.all_drawn else Drawn.AREA) if self.nothing_lost else Drawn.NOT_ALL
-
-    @property
     def lost_cells(self) -> list[UndrawnCell]:
         return [cell for cell in self.undrawn if not cell.touching]
 
@@ -142,6 +138,8 @@ class PlaneRecord:
         """What the search for a parallel plane found, in words."""
         if self.shift_most is None:
             return ""
+        if not self.tolerance >= self.mesh_tolerance:
+            return f"the tolerance is below the mesh's own: cut with that, {self.mesh_tolerance:.6g}, or a larger one"
         if self.shift_that_draws_all is None:
             return f"no parallel plane up to {self.shift_most:.3g} away does better; --shift-most looks further"
         return f"by a plane shifted by {self.shift_that_draws_all:.6g} along the normal no area is lost: --shift takes it"
@@ -287,35 +285,35 @@ def some(cells: list[int]) -> str:
     return ": " + ", ".join(map(str, cells[:8])) + (", ..." if len(cells) > 8 else "")
 
 
-def plane_record(cut: PlaneCut, sides: Sides, findings: Findings) -> PlaneRecord:
+def plane_record(cut: PlaneCut, section: Section) -> PlaneRecord:
     mesh, frame, asked = cut.mesh, cut.frame, cut.asked
-    reached, rings, net = findings.reached, findings.rings, findings.net
+    reached, rings, net = section.reached, section.rings, section.net
     listed, in_loops, flat, opened = cut.counts.sum(axis=0).tolist()
-    lost, undrawn = findings.lost.total, _undrawn(cut, findings)
+    lost, undrawn = section.lost.total, _undrawn(cut, section)
     record = PlaneRecord(
         VERSION, mesh.source, list(asked.origin), list(frame.normal), list(frame.u), list(frame.v), asked.shift, asked.tol, asked.own,
-        mesh.extent, mesh.total, mesh.types(), mesh.not_cut(), _not_cut_reached(cut, sides),
+        mesh.extent, mesh.total, mesh.types(), mesh.not_cut(), _not_cut_reached(mesh, section.sides),
         handed_over=reached.handed_over, straightened=reached.curved, crossed=len(reached.through), with_edges=len(cut.cells),
         polygons=int((~cut.hole).sum()), holes=int(cut.hole.sum()), self_touching=rings.self_touching, self_crossing=rings.crossing,
         area=net.area, repeated_area=net.repeated, coincident_polygons=net.coincident, doubled_polygons=net.doubled,
         lost_area=lost, lost_share=lost / (net.area + lost) if lost else 0.0,
-        jump_area=findings.jumps.area, jump_cells=findings.jumps.cells, listed=listed, in_loops=in_loops, flat=flat, open=opened,
+        jump_area=section.jumps.area, jump_cells=section.jumps.cells, listed=listed, in_loops=in_loops, flat=flat, open=opened,
         touching_cells=sum(cell.touching for cell in undrawn), undrawn=undrawn,
         crossed_without_edge=reached.no_edge.tolist(), crossed_face_without_segment=reached.no_segment.tolist(),
         within_tolerance=reached.within.tolist(), not_finite=reached.not_finite.tolist(),
-        missed_by=_missed_by(cut, reached), dropped=mesh.dropped,
+        missed_by=_missed_by(cut, section), dropped=mesh.dropped,
     )
     record.warnings = _warnings(record, mesh.remarks)
     return record
 
 
-def _undrawn(cut: PlaneCut, findings: Findings) -> list[UndrawnCell]:
-    cells, reached = findings.lost.cells, findings.reached
+def _undrawn(cut: PlaneCut, section: Section) -> list[UndrawnCell]:
+    cells, reached = section.lost.cells, section.reached
     rows = np.searchsorted(cut.cells, cells)
     space = cut.in_space() if len(cells) else None
     no_edge, no_segment, within = ({*part.tolist()} for part in (reached.no_edge, reached.no_segment, reached.within))
     found = []
-    for cell, row, name, area in zip(cells.tolist(), rows.tolist(), cut.mesh.type_of(cells), findings.lost.area.tolist()):
+    for cell, row, name, area in zip(cells.tolist(), rows.tolist(), cut.mesh.type_of(cells), section.lost.area.tolist()):
         listed = row < len(cut.cells) and cut.cells[row] == cell
         counts = cut.counts[row].tolist() if listed else [0, 0, 0, 0]
         what = ("no edge" if cell in no_edge else "a face without a segment" if cell in no_segment
@@ -325,8 +323,9 @@ def _undrawn(cut: PlaneCut, findings: Findings) -> list[UndrawnCell]:
     return found
 
 
-def _missed_by(cut: PlaneCut, reached: Reached) -> float:
+def _missed_by(cut: PlaneCut, section: Section) -> float:
     """The least distance of a corner, where the plane neither passes through a cell nor touches one along an edge."""
+    reached = section.reached
     if len(reached.through) or len(cut.cells) or len(reached.within) or len(reached.not_finite):
         return 0.0
     corners = np.zeros(len(cut.mesh.points), dtype=bool)
@@ -335,11 +334,11 @@ def _missed_by(cut: PlaneCut, reached: Reached) -> float:
     return float(np.abs(distances(cut.mesh.points[corners], cut.near.origin, cut.near.normal)).min())
 
 
-def _not_cut_reached(cut: PlaneCut, sides: Sides) -> dict[str, int]:
+def _not_cut_reached(mesh: Mesh, sides: Sides) -> dict[str, int]:
     """Cells of other types that fill space, less those whose nodes are all clear on one side."""
     found: dict[str, int] = {}
-    rows = len(cut.mesh.points)
-    for name, dimension, count, nodes in cut.mesh.others:
+    rows = len(mesh.points)
+    for name, dimension, count, nodes in mesh.others:
         if dimension == 3:
             if nodes is not None and nodes.dtype.kind in "iu" and nodes.size and 0 <= nodes.min() and nodes.max() < rows:
                 count -= int((np.bitwise_and.reduce(sides.of_node[nodes], axis=1) != 0).sum())

@@ -1,8 +1,9 @@
 """The nearest parallel plane by which everything is drawn."""
 from __future__ import annotations
 
+import math
 from collections.abc import Callable, Iterator
-from dataclasses import replace
+from dataclasses import dataclass, replace
 from enum import IntEnum
 
 import numpy as np
@@ -12,6 +13,7 @@ from .mesh import Block, Mesh, Polyhedra
 from .place import Frame
 
 MOST = 1e-6  # of the mesh's extent
+LOOKED_AT = 200  # cells of a plane where something is not drawn, and whether area is lost there is worked out
 
 
 class Drawn(IntEnum):
@@ -22,25 +24,36 @@ class Drawn(IntEnum):
     ALL = 2  # every edge
 
 
+@dataclass(frozen=True)
+class Wanted:
+    """How much a plane is to draw: everything, or else enough; and the area of the section asked for, drawn and lost together."""
+
+    enough: Drawn
+    area: float
+
+
 def nearest_shift(mesh: Mesh, frame: Frame, tol: float, drawn_at: Callable[[Mesh, float], tuple[Drawn, float]], most: float,
-                  enough: Drawn) -> float | None:
-    """How far along the normal, or against it, the first plane is that draws everything; else the first that draws enough.
+                  wanted: Wanted) -> float | None:
+    """How far along the normal, or against it, the nearest plane is that draws everything; else the nearest that draws enough.
 
     `drawn_at` tells how much of a section is drawn, and its area. Planes are tried on both sides in growing steps, up to `most`
-    away; of two as far away the one with the larger area is taken, and none that has left the mesh. Cells that no plane
-    reaches are left out once and for all.
+    away. Where the part gets narrower at the plane, one side has another area than was asked for: such a plane is taken
+    only if none with the area follows before 64 times its distance. None that has left the mesh is taken. Cells that no
+    plane reaches are left out once and for all.
     """
     slab = place.sides(mesh.points, frame.origin, frame.normal, most + 2 * tol)
     near = replace(mesh, blocks=_kept(mesh, slab))
-    second = None
+    found: dict[tuple[Drawn, bool], float] = {}  # the nearest plane of each kind: how much it draws, and whether it has the area
     for step in _steps(2 * tol, most):
-        found = [(*drawn_at(near, shift), shift) for shift in (step, -step)]
-        found = [plane for plane in found if plane[0] >= enough and plane[1] > 0]
-        drawn, _, shift = max(found, default=(Drawn.NOT_ALL, 0.0, None), key=lambda plane: plane[:2])
-        if drawn == Drawn.ALL:
-            return shift
-        second = shift if second is None else second
-    return second
+        if step > 64 * abs(found.get((Drawn.ALL, False), math.inf)):
+            break
+        for shift in (step, -step):
+            drawn, area = drawn_at(near, shift)
+            if drawn >= wanted.enough and area > 0:
+                found.setdefault((drawn, area > 0.999 * wanted.area), shift)
+        if (Drawn.ALL, True) in found:
+            break
+    return found[max(found)] if found else None
 
 
 def extent_of(mesh: Mesh) -> float:
