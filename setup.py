@@ -3,7 +3,7 @@ import shutil
 import subprocess
 from pathlib import Path
 
-from setuptools import setup
+from setuptools import Distribution, setup
 from setuptools.command.build_py import build_py
 from wheel.bdist_wheel import bdist_wheel
 
@@ -17,19 +17,20 @@ class BuildWithLibrary(build_py):
         if shutil.which("rt"):
             subprocess.run([str(ROOT / "python" / "build")], check=True)
         if not LIBRARY.exists():
-            raise SystemExit(f"{LIBRARY} is not there, and neither is the Rattle toolchain's command rt, which makes it")
+            raise SystemExit("the Rattle toolchain's command rt is missing, and target/shared/libcicelybeam.so is not there: see python/README.md")
         shutil.copy2(LIBRARY, Path(self.build_lib) / "cicelybeam")
 
 
-class WheelOfThisMachine(bdist_wheel):
-    """For this system and processor, and for any Python 3: the library is loaded by ctypes."""
+class OfOneMachine(Distribution):
+    def has_ext_modules(self) -> bool:
+        """So that what is made is for this system and processor."""
+        return True
 
-    def finalize_options(self) -> None:
-        super().finalize_options()
-        self.root_is_pure = False
 
-    def get_tag(self) -> tuple[str, str, str]:
+class AnyPython(bdist_wheel):
+    def get_tag(self) -> tuple:
+        """For any Python 3: the library is loaded by ctypes."""
         return ("py3", "none", super().get_tag()[2])
 
 
-setup(cmdclass={"build_py": BuildWithLibrary, "bdist_wheel": WheelOfThisMachine})
+setup(distclass=OfOneMachine, cmdclass={"build_py": BuildWithLibrary, "bdist_wheel": AnyPython})
