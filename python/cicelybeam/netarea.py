@@ -20,6 +20,9 @@ from .coincident import coinciding
 from .rings import Rings
 
 
+ROUNDING = 1e-13  # of the area: what neighbours overlap by rounding
+
+
 @dataclass(frozen=True)
 class NetArea:
     """The area of the section, what the rings' areas have beyond it, and how many rings coincide with another one."""
@@ -35,8 +38,11 @@ def net_area(rings: Rings, side: np.ndarray, tol: float) -> NetArea:
     again = first != np.arange(len(first))
     alone = ~again
     alone[first[again]] = False
+    total = float(rings.area.sum())
     repeated = float(rings.area[again].sum()) + _repeated(rings, side, alone & (side != 0))
-    return NetArea(float(rings.area.sum()) - repeated, repeated, int((~alone).sum()), int((again & (side == 0)).sum()))
+    if repeated <= ROUNDING * total:
+        repeated = 0.0
+    return NetArea(total - repeated, repeated, int((~alone).sum()), int((again & (side == 0)).sum()))
 
 
 def _repeated(rings: Rings, side: np.ndarray, touched: np.ndarray) -> float:

@@ -160,25 +160,28 @@ class PlaneRecord:
         if not self.flat and not self.open:
             return ", and no listed edge is left undrawn"
         cells = sum(cell.flat + cell.open > 0 for cell in self.undrawn)
-        undrawn = (f", and {self.flat} flat and {number(self.open, 'open edge')} in {number(cells, 'cell')} "
-                   f"{'is' if self.flat + self.open == 1 else 'are'} not drawn")
+        edges = " and ".join(number(count, f"{kind} edge") for count, kind in ((self.flat, "flat"), (self.open, "open")) if count)
+        one = self.flat + self.open == 1
         lost = any(cell.flat + cell.open for cell in self.lost_cells)
-        return undrawn + ("" if lost else f", which {'bounds' if self.flat + self.open == 1 else 'bound'} no area")
+        return (f", and {edges} in {number(cells, 'cell')} {'is' if one else 'are'} not drawn"
+                + ("" if lost else f", which {'bounds' if one else 'bound'} no area"))
 
     def _remarks(self) -> list[str]:
         """What else a reader of the area has to know."""
         found = []
         if self.lost_cells:
-            found.append(f"an area of about {self.lost_area:.3g} is lost in {number(len(self.lost_cells), 'cell')}, {100 * self.lost_share:.3g} % of the whole")
+            found.append(f"an area of about {self.lost_area:.3g} is lost in {number(len(self.lost_cells), 'cell')}, "
+                         f"{100 * self.lost_share:.3g} % of the whole")
         if self.jump_area > JUMP * self.area:
             found.append(f"the area jumps by about {self.jump_area:.3g} at this plane, by faces that are not flat")
         if self.repeated_area:
-            found.append(f"polygons of cells on both sides of the plane overlap there, and an area of {self.repeated_area:.12g} is counted once only")
+            where = "of cells that are in the mesh twice" if self.doubled_polygons else "of cells on both sides of the plane"
+            found.append(f"polygons {where} overlap, and an area of {self.repeated_area:.12g} is counted once only")
         if self.straightened:
             found.append(f"{number(self.straightened, 'cell')} with mid-side nodes {were(self.straightened)} cut as straight between corners")
         if self.crossed_without_edge or self.crossed_face_without_segment:
-            found.append(f"of the {number(self.crossed, 'cell')} that the plane passes through, {len(self.crossed_without_edge)} "
-                         f"without an edge and {len(self.crossed_face_without_segment)} without the segment of a face")
+            found.append(f"of the {number(self.crossed, 'cell')} that the plane passes through, {len(self.crossed_without_edge)} list no edge "
+                         f"and {len(self.crossed_face_without_segment)} lack the segment of a face")
         if self.within_tolerance:
             found.append(f"{number(len(self.within_tolerance), 'cell')} wholly within the tolerance of the plane, without a section")
         if self.not_finite:
@@ -221,7 +224,7 @@ class PlaneRecord:
             ("area", f"{self.area:.12g}"),
         ]
         more = [
-            ("counted twice", self.repeated_area, f"{self.repeated_area:.12g}, by cells on both sides of the plane; not in the area"),
+            ("counted twice", self.repeated_area, f"{self.repeated_area:.12g}, where polygons overlap; not in the area"),
             ("straightened", self.straightened, f"{number(self.straightened, 'cell')} with mid-side nodes, cut as straight between corners"),
             ("self-touching", self.self_touching, f"{number(self.self_touching, 'polygon')} through a point twice, cut there into rings"),
             ("self-crossing", self.self_crossing, f"{number(self.self_crossing, 'cell')} with polygons that cross, by the even-odd rule"),
