@@ -225,7 +225,7 @@ def _run(given: argparse.Namespace) -> int:
         for warning in cut.record.warnings:
             print(f"cicelybeam: {warning}", file=sys.stderr)
     else:
-        _print(_record(cut))
+        _print(record_in_words(cut))
     _write(given, cut)
     status, reasons = _status(given, cut)
     for why in reasons:
@@ -233,7 +233,7 @@ def _run(given: argparse.Namespace) -> int:
     return status
 
 
-def _record(cut: PlaneCut | LineCut) -> str:
+def record_in_words(cut: PlaneCut | LineCut) -> str:
     """The record, with a line for each group where the mesh has groups."""
     lines, sentence = str(cut.record).rsplit("\n\n", 1)
     groups = cut.area_by("group") if isinstance(cut, PlaneCut) and cut.mesh.group is not None else {}

@@ -136,7 +136,7 @@ class LineCut(Published):
         return len(self.segments)
 
     def __repr__(self) -> str:
-        return f"<LineCut of {self.mesh.source}: {len(self)} segments, length covered {self.record.covered:.12g}>"
+        return f"<LineCut of {self.mesh.source}: {number(len(self), 'segment')}, length covered {self.record.covered:.12g}>"
 
     def __str__(self) -> str:
         return str(self.record)
@@ -272,6 +272,7 @@ def _covered(segments: np.ndarray, origin: Vector, direction: Vector, gap: float
         return 0.0, []
     along = np.array(place.unit(direction))
     ends = np.sort((segments - np.array(origin)) @ along, axis=1)
+    ends = ends[np.isfinite(ends).all(axis=1)]
     ends = ends[np.argsort(ends[:, 0])]
     reach = np.maximum.accumulate(ends[:, 1])
     before = np.concatenate([[-np.inf], reach[:-1]])

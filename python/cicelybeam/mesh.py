@@ -130,7 +130,7 @@ class Polyhedra:
         return [np.asarray(face, dtype=np.int64) for face in self.cells[index] if len(face) >= 3]
 
 
-@dataclass
+@dataclass(repr=False)
 class Mesh:
     """Coordinates in rows, the blocks that are cut, and what is not.
 
@@ -148,6 +148,9 @@ class Mesh:
     groups: dict[int, str] = field(default_factory=dict)  # the names of groups, by number
     other_first: list[int] = field(default_factory=list)  # the number of the first cell of each of `others`
     stamp: tuple[int, int] | None = None  # time and size of the file when it was read
+
+    def __repr__(self) -> str:
+        return f"<Mesh of {self.source}: {len(self.points)} nodes, {self.total} cells>"
 
     @property
     def dimension(self) -> int:
@@ -248,6 +251,8 @@ def _words(said: io.StringIO) -> str:
 
 def of_meshio(found: meshio.Mesh, source: str = "mesh") -> Mesh:
     """A meshio mesh as the library takes it. Node numbers and coordinates are copied only where they have to be."""
+    if not isinstance(found, meshio.Mesh):
+        raise MeshError(f"{found!r} is not a mesh; give what cicelybeam.read or meshio.read gives")
     points = np.asarray(found.points)
     if points.ndim != 2 or points.shape[1] not in (2, 3) or not np.issubdtype(points.dtype, np.number):
         raise MeshError(f"{source}: its coordinates are not rows of two or three numbers")

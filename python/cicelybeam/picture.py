@@ -3,7 +3,7 @@ from __future__ import annotations
 
 import io
 from collections.abc import Callable
-from dataclasses import dataclass, field
+from dataclasses import dataclass, field, fields
 from pathlib import Path
 
 import matplotlib
@@ -69,6 +69,10 @@ def draw(cut: PlaneCut | LineCut, path: str | Path, **look: object) -> None:
 
 
 def look_of(given: dict[str, object]) -> Look:
+    known = [each.name for each in fields(Look)]
+    unknown = [name for name in given if name not in known]
+    if unknown:
+        raise CicelybeamError(f"a picture has no option {', '.join(unknown)}; it has {', '.join(known)}")
     wanted = Look(**given)  # type: ignore[arg-type]
     if wanted.edges not in ("on", "off", "auto"):
         raise CicelybeamError(f"edges are on, off or auto, not {wanted.edges!r}")

@@ -11,6 +11,7 @@ from __future__ import annotations
 import math
 from dataclasses import dataclass
 from fractions import Fraction
+from numbers import Real
 from typing import TYPE_CHECKING
 
 import numpy as np
@@ -147,8 +148,8 @@ class Sides:
 def chosen_tolerance(tolerance: float | None, own: float, source: str) -> float:
     """The tolerance that is given, else the mesh's own, which infinite coordinates make infinite."""
     if tolerance is not None:
-        if not 0.0 <= tolerance < math.inf:
-            raise CicelybeamError(f"the tolerance {tolerance} is not a number from 0 on")
+        if not isinstance(tolerance, Real) or not 0.0 <= tolerance < math.inf:
+            raise CicelybeamError(f"the tolerance {tolerance!r} is not a number from 0 on")
         return float(tolerance)
     if own == math.inf:
         raise MeshError(f"{source}: it has infinite coordinates, so its own tolerance is infinite; give a tolerance")

@@ -1,6 +1,7 @@
 """A mesh cut by a plane."""
 from __future__ import annotations
 
+import math
 from collections.abc import Iterator
 from dataclasses import dataclass, replace
 
@@ -13,8 +14,8 @@ from .library import slice_tolerance
 from .mesh import Mesh, of_meshio
 from .place import Frame
 from .publish import Published
-from .record import PlaneRecord, counted, plane_record
-from .refusal import MeshError
+from .record import PlaneRecord, counted, plane_record, number
+from .refusal import CicelybeamError, MeshError
 from .section import Asked, Section
 from .shift import LOOKED_AT, MOST, Drawn, Wanted, extent_of, nearest_shift
 
@@ -49,7 +50,7 @@ class PlaneCut(Published):
         return len(self.ends)
 
     def __repr__(self) -> str:
-        return f"<PlaneCut of {self.mesh.source}: {len(self)} rings, area {self.record.area:.12g}>"
+        return f"<PlaneCut of {self.mesh.source}: {number(len(self), 'ring')}, area {self.record.area:.12g}>"
 
     def polygon(self, k: int) -> np.ndarray:
         """The points of ring k."""
@@ -144,12 +145,15 @@ def cut_plane(
     origin, normal = place.vector(origin, 3, "origin"), place.vector(normal, 3, "normal")
     own = slice_tolerance(found.points)
     tol = place.chosen_tolerance(tolerance, own, found.source)
+    if shift_most is not None and not 0.0 < shift_most < math.inf:
+        raise CicelybeamError(f"the distance {shift_most} for the search is not a number above 0")
     asked = Asked(origin, normal, tol, own)
-    cut = _made(Section(found, asked, leave_out, progress))
-    if shift and not (cut.record.all_drawn and cut.record.nothing_lost):
-        distance = cut.look_for_shift(shift_most)
-        if distance:
-            return _made(Section(found, replace(asked, shift=distance), leave_out, progress))
+    with np.errstate(all="ignore"):  # a cell with numbers that overflow is told of; numpy need not say so as well
+        cut = _made(Section(found, asked, leave_out, progress))
+        if shift and not (cut.record.all_drawn and cut.record.nothing_lost):
+            distance = cut.look_for_shift(shift_most)
+            if distance:
+                return _made(Section(found, replace(asked, shift=distance), leave_out, progress))
     return cut
 
 
