@@ -1,13 +1,9 @@
 """Meshes that several tests use."""
-import sys
-from pathlib import Path
-
 import meshio
 import numpy as np
 import pytest
 from hypothesis import settings
 
-sys.path.insert(0, str(Path(__file__).resolve().parents[1]))
 settings.register_profile("short", max_examples=25, deadline=None, derandomize=True)
 settings.load_profile("short")
 

@@ -1,5 +1,5 @@
-#!/usr/bin/python3
-"""Times a plane cut and a line cut of 215,622 tetrahedra, apart from reading a file; the least of five turns."""
+#!/usr/bin/env -S PYTHONPATH=python /usr/bin/python3
+"""Times a plane cut and a line cut of 215,622 tetrahedra, apart from reading a file; the least of five turns. From the repository's root."""
 import time
 
 from conftest import box
