@@ -249,8 +249,10 @@ def _print(text: str) -> None:
     """Prints; a reader that stops early, as `head` does, must not keep the files from being written."""
     try:
         print(text, flush=True)
-    except BrokenPipeError:
-        os.dup2(os.open(os.devnull, os.O_WRONLY), sys.stdout.fileno())
+    except OSError as error:
+        os.dup2(os.open(os.devnull, os.O_WRONLY), sys.stdout.fileno())  # or Python would try once more at its end
+        if not isinstance(error, BrokenPipeError):
+            raise CicelybeamError(f"standard output: it cannot be written: {error.strerror or error}") from error
 
 
 def _outputs(given: argparse.Namespace) -> list[Path]:
@@ -306,13 +308,14 @@ class _Bar:
 
 def _write(given: argparse.Namespace, cut: PlaneCut | LineCut) -> None:
     from . import report
-    from .page import write_page
 
     look = {"colour": given.colour, "title": given.title, "size": given.size, "dpi": given.dpi, "edges": given.edges}
     command = shlex.join(["cicelybeam", *given.words])
     if _to_screen(given):
         _print(report.as_json(cut, command))
     elif given.report and given.report.suffix.lower() == ".html":
+        from .page import write_page
+
         write_page(cut, given.report, command, **look)
     elif given.report:
         report.write_report(cut, given.report, command, given.colour)

@@ -5,7 +5,7 @@ import hashlib
 import os
 import platform
 from datetime import datetime, timezone
-from importlib import import_module
+from importlib import metadata
 from pathlib import Path
 
 from .library import library
@@ -25,7 +25,7 @@ def origin_of(cut: PlaneCut | LineCut, command: str | None = None) -> dict:
         "mesh_sha256": _of_mesh(cut),
         "library_sha256": sha256(Path(library()._name)),
         "versions": {"cicelybeam": VERSION, "python": platform.python_version(),
-                     **{name: getattr(import_module(name), "__version__", "unknown") for name in PACKAGES}},
+                     **{name: metadata.version(name) for name in PACKAGES}},
     }
 
 

@@ -162,6 +162,12 @@ def test_report_on_standard_output(path, capsys):
     assert json.loads(said.out)["area"] > 0 and said.err == ""
 
 
+def test_standard_output_that_is_full(path):
+    with open("/dev/full", "w") as full:
+        done = subprocess.run([PROGRAM, "plane", path, *PLANE, "--report", "-"], stdout=full, stderr=subprocess.PIPE, text=True)
+    assert (done.returncode, done.stderr) == (1, "cicelybeam: standard output: it cannot be written: No space left on device\n")
+
+
 @pytest.mark.parametrize("again", [["--origin", "0,0,0"], ["--normal", "x"], ["--quiet", "--quiet"], ["--dpi", "9", "--dpi", "9"]])
 def test_repeated_options(path, capsys, again):
     with pytest.raises(SystemExit) as told:
