@@ -10,7 +10,7 @@ import matplotlib
 import numpy as np
 from matplotlib.cm import ScalarMappable
 from matplotlib.collections import LineCollection, PathCollection
-from matplotlib.colors import Normalize
+from matplotlib.colors import Normalize, to_rgb
 from matplotlib.figure import Figure
 from matplotlib.patches import Patch
 from matplotlib.path import Path as Outline
@@ -28,7 +28,7 @@ from .undrawn import Finding, findings, undrawn_edges
 # From light to dark, at least 20 of 255 steps of luminance from one to the next, by Rec. 601 and by Rec. 709.
 SHADES = ("#f6edbf", "#b3dce9", "#e1b189", "#73b37d", "#6c83c0", "#87683a", "#67476f", "#223d66")
 HATCHES = ("", "////", "....", "xxxx")  # for the second, third and fourth time that a shade is taken
-RED, INK, GREY = "#d00000", "#202020", "#303030"
+RED, INK, GREY, LIGHT = "#d00000", "#202020", "#303030", "#f0f0f0"
 SCALE = "viridis"  # its luminance grows from end to end
 IN_ONE = 1000  # polygons of one class in one path
 THINNEST = 0.03  # points (1/72 inch); edges that would be thinner are left out
@@ -169,17 +169,24 @@ def _fill(sheet: Sheet, mesh: Mesh, rings: _Rings, look: Look) -> None:
     def thin(points_to_one: float) -> None:
         width = {"on": 0.4, "off": 0.0}.get(look.edges, min(0.4, 0.05 * size * points_to_one))
         for patch in patches:
-            patch.set_linewidth(width if width >= THINNEST else 0.15)
-            patch.set_edgecolor(GREY if width >= THINNEST else "face")
+            if width >= THINNEST or patch.get_hatch():  # a hatch has the colour of the edges
+                patch.set(linewidth=width if width >= THINNEST else 0.0, edgecolor=_ink(patch.get_facecolor()[0], patch.get_hatch()))
+            else:
+                patch.set(linewidth=0.15, edgecolor="face")
 
     sheet.when_scaled.append(thin)
+
+
+def _ink(fill: object, hatch: str | None) -> str:
+    """The colour of edges and hatches: a hatch has to be seen on dark fills too."""
+    return LIGHT if hatch and np.dot(to_rgb(fill), (0.299, 0.587, 0.114)) < 0.45 else GREY
 
 
 def _by_class(sheet: Sheet, mesh: Mesh, rings: _Rings, look: Look) -> list[PathCollection]:
     names, index = classes(mesh, rings.cells, look.colour)
     fills = shades(len(names))
     for name, (fill, hatch) in zip(names, fills):
-        sheet.handles.append(Patch(facecolor=fill, hatch=hatch, edgecolor=GREY, linewidth=0.4, label=_words(name)))
+        sheet.handles.append(Patch(facecolor=fill, hatch=hatch, edgecolor=_ink(fill, hatch), linewidth=0.4, label=_words(name)))
     return [_patch(sheet, rings, np.flatnonzero(index == k), fill, hatch) for k, (fill, hatch) in enumerate(fills)]
 
 

@@ -19,6 +19,7 @@ INCH = 25.4  # millimetres
 PAD = 0.07  # inches between things
 LONG, SHORT = 4.6, 1.0  # inches: the axes' longer side, and the least of the shorter one
 BAR = 0.13  # inches: the width of the scale
+MOST_BESIDE = 12  # entries of a legend beside the axes; a longer one stands below, in columns
 
 
 class Sheet:
@@ -50,9 +51,9 @@ class Sheet:
         """Lays out; the size is in millimetres, width and height or the width alone."""
         low, span = self._limits()
         ratio = span[0] / span[1]
-        beside = self.equal and ratio < 0.75 and self.scale is None
+        beside = self.equal and ratio < 0.75 and self.scale is None and len(self.handles) <= MOST_BESIDE
         if size is not None and len(size) == 2:
-            beside = self.scale is None and size[0] / size[1] > 1.4 * ratio
+            beside = self.scale is None and size[0] / size[1] > 1.4 * ratio and len(self.handles) <= MOST_BESIDE
         bar = self.figure.add_axes((0.9, 0.2, 0.02, 0.6)) if self.scale is not None else None
         if bar is not None:
             self.figure.colorbar(self.scale, cax=bar, label=self.scale_label)
@@ -61,13 +62,13 @@ class Sheet:
         page = (wide + 1.5, high + 1.5)
         for _ in range(4):  # labels depend on the room, and the room on the labels
             limit = page[0] if wanted is None else wanted[0]
-            legend = self._legend(beside, max(limit, 2.6) - 2 * PAD if wanted is None else limit - 2 * PAD)
+            least = LONG if len(self.handles) > 6 else 2.6
+            legend = self._legend(beside, (max(limit, least) if wanted is None else limit) - 2 * PAD)
             title = self._title(max(limit, 2.6) if wanted is None else limit)
             around = self._around(bar, legend, title, beside)
             if wanted is not None:
                 wide = wanted[0] - around[0] - around[1]
-                high = wanted[1] - around[2] - around[3] if len(wanted) == 2 else wide / ratio if self.equal else self.height
-                high = max(high, SHORT) if len(wanted) == 1 else high
+                high = wanted[1] - around[2] - around[3] if len(wanted) == 2 else self._high(wide, ratio)
                 if wide < 0.4 or high < 0.4:
                     raise CicelybeamError("the picture is too small for what stands around the section; give a larger size")
             page = self._place(wide, high, around, bar, legend, title, beside, low, span, wanted)
@@ -90,6 +91,10 @@ class Sheet:
         if not self.equal:
             return LONG, self.height
         return max(LONG * min(1.0, ratio), SHORT), max(LONG * min(1.0, 1 / ratio), SHORT)
+
+    def _high(self, wide: float, ratio: float) -> float:
+        """The height of the axes for their width, where it may be chosen."""
+        return min(max(wide / ratio, SHORT), 1.4 * wide) if self.equal else self.height
 
     def _legend(self, beside: bool, room: float):
         """The legend with as many columns as there is room for."""

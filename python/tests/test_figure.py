@@ -172,6 +172,17 @@ def test_edges_are_thinned():
     assert width(30, edges="on") == 0.4 and width(2, edges="off") == 0
 
 
+@pytest.mark.parametrize("edges", ["on", "off"])
+def test_hatches_stay_without_edges(edges):
+    mesh = box(4)
+    mesh.cell_data = {"gmsh:physical": [np.arange(1, 65)]}
+    patches = figure(cicelybeam.cut_plane(mesh, (0, 0, 0.4), (0, 0, 1)), colour="group", edges=edges).axes[0].collections
+    assert len(patches) == 16 and sum(bool(patch.get_hatch()) for patch in patches) == 8
+    for patch in patches:
+        same = patch.get_edgecolor().tolist() == patch.get_facecolor().tolist()
+        assert same == (edges == "off" and not patch.get_hatch())
+
+
 def test_many_cells_are_not_black(tmp_path):
     """Over 12,000 polygons: the fill is still seen."""
     cut = cicelybeam.cut_plane(box(42, "tetra"), (0.1, 0.2, 0.5), (0.3, 0.2, 3))
