@@ -2,6 +2,7 @@
 from __future__ import annotations
 
 import io
+import warnings
 from collections.abc import Callable
 from dataclasses import dataclass, field, fields
 from pathlib import Path
@@ -103,7 +104,9 @@ def rendered(cut: PlaneCut | LineCut, look: Look, suffix: str) -> bytes:
     """The contents of a picture's file. The same cut gives the same ones: no dates."""
     out = io.BytesIO()
     metadata = {".svg": {"Date": None}, ".pdf": {"CreationDate": None}}.get(suffix)
-    with matplotlib.rc_context({**matplotlib.rcParamsDefault, **STYLE}):
+    with matplotlib.rc_context({**matplotlib.rcParamsDefault, **STYLE}), warnings.catch_warnings():
+        if suffix == ".svg":  # signs that matplotlib's font lacks are the reader's font's there
+            warnings.filterwarnings("ignore", message="Glyph")
         figure_of(cut, look).savefig(out, format=suffix[1:], dpi=look.dpi or 300, metadata=metadata)
     if suffix != ".eps":
         return out.getvalue()
@@ -111,8 +114,8 @@ def rendered(cut: PlaneCut | LineCut, look: Look, suffix: str) -> bytes:
 
 
 def _words(text: str) -> str:
-    """A name as it stands: no formula."""
-    return text.replace("$", r"\$")
+    """A name as it stands: no formula, and in the legend too where it begins with an underscore, which matplotlib leaves out."""
+    return ("\u200b" if text.startswith("_") else "") + text.replace("$", r"\$")
 
 
 def _short(numbers: object) -> str:

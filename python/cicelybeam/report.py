@@ -18,7 +18,7 @@ from .provenance import origin_of, proved
 from .outputs import POLYGONS, check_places, check_suffix, whole
 from .plane import PlaneCut
 from .refusal import CicelybeamError
-from .undrawn import findings
+from .undrawn import findings, undrawn_edges
 from .vtp import vtp
 
 PLANE_COLUMNS = ("polygon", "cell", "type", "group", "area", "hole_of", "side", "point", "x", "y", "z", "u", "v")
@@ -179,15 +179,18 @@ def line_rows(cut: LineCut, colour: str = "type") -> tuple[tuple[str, ...], list
     return (*columns, *([colour] if shown else [])), rows
 
 
+def cell_data(cut: PlaneCut, cells: np.ndarray) -> dict[str, np.ndarray]:
+    """Of each of these cells: its number, its counts, and the mesh's fields, with mesh: before a name that is taken."""
+    at = np.searchsorted(cut.cells, cells)
+    data = {"cell": cells.astype(np.int64), **{name: cut.counts[at, k] for k, name in enumerate(("listed", "in_loops", "flat", "open"))}}
+    taken = {*data, "area", "side", "hole_of"}
+    return {**data, **{f"mesh:{name}" if name in taken else name: values[cells] for name, values in cut.mesh.fields.items()}}
+
+
 def polygon_data(cut: PlaneCut) -> dict[str, np.ndarray]:
-    """Of each ring: its cell, area, side, the ring that it is a hole of (else -1), the cell's counts, and its fields."""
-    at = np.searchsorted(cut.cells, cut.polygon_cell)
-    data = {"cell": cut.polygon_cell.astype(np.int64), "area": cut.polygon_area, "side": cut.side.astype(np.int64),
-            "hole_of": np.where(cut.hole, cut.outer, -1)}
-    data.update({name: cut.counts[at, k] for k, name in enumerate(("listed", "in_loops", "flat", "open"))})
-    for name, values in cut.mesh.fields.items():
-        data.setdefault(name, values[cut.polygon_cell])
-    return data
+    """Of each ring: its area, its side, the ring that it is a hole of (else -1), and its cell's data."""
+    return {"area": cut.polygon_area, "side": cut.side.astype(np.int64), "hole_of": np.where(cut.hole, cut.outer, -1),
+            **cell_data(cut, cut.polygon_cell)}
 
 
 def write_polygons(cut: PlaneCut, path: Path) -> None:
@@ -196,7 +199,9 @@ def write_polygons(cut: PlaneCut, path: Path) -> None:
     check_places(cut.mesh.source, [path])
     with whole(path) as place:
         if path.suffix.lower() == ".vtp":
-            place.write_bytes(vtp(cut, polygon_data(cut)))
+            edges = undrawn_edges(cut)
+            of_edge = cell_data(cut, np.array([cell for cell, _ in edges], dtype=np.int64))
+            place.write_bytes(vtp(cut, polygon_data(cut), edges, of_edge))
             return
         try:
             _as_meshio(cut).write(place)

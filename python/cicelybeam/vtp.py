@@ -8,21 +8,21 @@ import numpy as np
 
 from .onpoints import point_values, welded
 from .plane import PlaneCut
-from .undrawn import undrawn_edges
+from .undrawn import Pair
 
 
-def vtp(cut: PlaneCut, of_ring: dict[str, np.ndarray]) -> bytes:
-    """The file's contents. VTK counts lines before polygons, so the data of lines come first."""
+def vtp(cut: PlaneCut, of_ring: dict[str, np.ndarray], edges: list[tuple[int, Pair]], of_edge: dict[str, np.ndarray]) -> bytes:
+    """The file's contents. VTK counts lines before polygons, so the data of edges come first; what a ring alone has is 0 or -1 there."""
     firsts, number = welded(cut.points, 2 * max(cut.record.tolerance, cut.record.mesh_tolerance))
     used = np.zeros(len(firsts), dtype=bool)
-    edges = undrawn_edges(cut)
     lines = number[np.array([edge for _, edge in edges], dtype=np.int64).reshape(-1, 2)]
     rings = number[cut.nodes]
     used[rings] = True
     used[lines] = True
     place = np.cumsum(used) - 1
     shown = firsts[used]
-    of_line = _of_lines(cut, [cell for cell, _ in edges], of_ring)
+    alone = {"area": np.zeros(len(edges)), "side": np.zeros(len(edges), np.int64), "hole_of": np.full(len(edges), -1)}
+    data = {name: np.concatenate([{**alone, **of_edge}[name], values]) for name, values in of_ring.items()}
     parts = [
         '<?xml version="1.0"?>\n<VTKFile type="PolyData" version="1.0" byte_order="LittleEndian" header_type="UInt64">\n<PolyData>\n',
         f'<Piece NumberOfPoints="{len(shown)}" NumberOfVerts="0" NumberOfLines="{len(lines)}" NumberOfStrips="0" '
@@ -31,19 +31,10 @@ def vtp(cut: PlaneCut, of_ring: dict[str, np.ndarray]) -> bytes:
         f"<Lines>\n{_array('connectivity', place[lines].ravel())}{_array('offsets', 2 * np.arange(1, len(lines) + 1))}</Lines>\n",
         f"<Polys>\n{_array('connectivity', place[rings])}{_array('offsets', cut.ends)}</Polys>\n",
         f"<PointData>\n{''.join(_array(name, values[shown]) for name, values in point_values(cut).items())}</PointData>\n",
-        f"<CellData>\n{''.join(_array(name, np.concatenate([of_line[name], values])) for name, values in of_ring.items())}</CellData>\n",
+        f"<CellData>\n{''.join(_array(name, values) for name, values in data.items())}</CellData>\n",
         "</Piece>\n</PolyData>\n</VTKFile>\n",
     ]
     return "".join(parts).encode()
-
-
-def _of_lines(cut: PlaneCut, cells: list[int], of_ring: dict[str, np.ndarray]) -> dict[str, np.ndarray]:
-    """For each edge that was not drawn what a ring has: its cell's counts and fields; no area, and -1 for a ring's number."""
-    numbers = np.array(cells, dtype=np.int64)
-    at = np.searchsorted(cut.cells, numbers)
-    own = {"cell": numbers, "area": np.zeros(len(cells)), "side": np.zeros(len(cells), np.int64), "hole_of": np.full(len(cells), -1)}
-    own.update({name: cut.counts[at, k] for k, name in enumerate(("listed", "in_loops", "flat", "open"))})
-    return {name: own[name] if name in own else cut.mesh.fields[name][numbers] for name in of_ring}
 
 
 def _array(name: str, values: np.ndarray) -> str:

@@ -1,5 +1,6 @@
 """The figure: names and coordinates of its axes, legend, shades, edges, sizes and formats."""
 import re
+import warnings
 
 import meshio
 import numpy as np
@@ -217,8 +218,12 @@ def test_text_is_text(tmp_path):
 
 def test_names_are_no_formulas(tmp_path):
     mesh = grouped()
-    mesh.field_data = {r"a $\frac$ b": np.array([1, 3]), "50 $": np.array([2, 3])}
-    cicelybeam.cut_plane(mesh, (0, 0, 0.3), (0, 0, 1)).draw(tmp_path / "a.png", colour="group")
+    mesh.field_data = {r"a $\frac$ b": np.array([1, 3]), "_50 $ \u94a2": np.array([2, 3])}
+    cut = cicelybeam.cut_plane(mesh, (0, 0, 0.3), (0, 0, 1))
+    with warnings.catch_warnings():
+        warnings.simplefilter("error")
+        cut.draw(tmp_path / "a.svg", colour="group")
+    assert "_50 $ \u94a2" in (tmp_path / "a.svg").read_text() and r"a $\frac$ b" in (tmp_path / "a.svg").read_text()
 
 
 @pytest.mark.parametrize("look,words", [

@@ -258,6 +258,16 @@ def test_vtp_is_welded_and_has_fields(path, tmp_path):
     assert (found["CellData"]["stress"] == found["CellData"]["cell"]).all()
 
 
+def test_fields_whose_names_are_taken_are_carried_over(tmp_path):
+    mesh = box(1, "tetra")
+    mesh.cell_data = {"area": [np.arange(6.0)], "flux": [np.arange(18.0).reshape(6, 3)], "<&>": [np.arange(6)]}
+    cut = cicelybeam.cut_plane(mesh, (0, 0, 0.3), (0, 0, 1))
+    cut.write(tmp_path / "a.vtp")
+    data = parts(tmp_path / "a.vtp")["CellData"]
+    assert data["area"].sum() == pytest.approx(1) and (data["mesh:area"] == cut.polygon_cell).all()
+    assert (data["flux"][:, 2] == 3 * cut.polygon_cell + 2).all() and (data["<&>"] == cut.polygon_cell).all()
+
+
 def test_vtp_has_undrawn_edges(tmp_path):
     """Three sides of the open brick, as lines, beside the whole one's polygon."""
     points = np.concatenate([CUBE, CUBE + [2, 0, 0]])
@@ -299,6 +309,13 @@ def test_linear_fields_of_nodes_are_exact(kind, origin, normal, slope):
     mesh.point_data["f"] = mesh.points @ np.array(slope) + 0.5
     cut = cicelybeam.cut_plane(mesh, origin, normal)
     assert point_values(cut)["f"] == pytest.approx(cut.in_space() @ np.array(slope) + 0.5, abs=1e-9)
+
+
+def test_fields_of_nodes_on_a_shifted_plane():
+    mesh = box(2, "tetra")
+    mesh.point_data["z"] = mesh.points[:, 2] * 1.0
+    cut = cicelybeam.cut_plane(mesh, (0.1, 0.2, 0.5), (0, 0, 1), shift=True)
+    assert cut.record.shift and point_values(cut)["z"] == pytest.approx(np.full(len(cut.points), 0.5 + cut.record.shift), abs=1e-15)
 
 
 def test_fields_of_nodes_of_polyhedra():
