@@ -44,8 +44,9 @@ class LineRecord:
     length: float  # of all segments together
     covered: float  # of the part of the line that they cover
     stretches: list[list[float]]  # the parts of the line that they cover without a gap, by distance from the origin
-    undrawn: list[int]  # cells that the line may reach whose section has a piece that is not drawn
-    touching: list[int]  # of these, cells that the plane only touches, along one edge
+    straightened: int  # cells with mid-side nodes that have a segment, cut as straight between their corners
+    undrawn: list[int]  # cells that the line may reach whose section lacks a piece with an area
+    touching: list[int]  # cells that the line may reach and that the plane only touches
     without_segment: list[int]  # cells that the line passes through and that have no segment
     dropped: list[str]  # what meshio says of cells that it left out while reading
     warnings: list[str] = field(default_factory=list)
@@ -56,10 +57,6 @@ class LineRecord:
         return not self.undrawn and not self.without_segment
 
     @property
-    def only_touching(self) -> bool:
-        return not self.without_segment and set(self.undrawn) <= set(self.touching)
-
-    @property
     def all_cut(self) -> bool:
         return not any(self.not_cut_reached.values()) and not self.dropped
 
@@ -67,9 +64,8 @@ class LineRecord:
     def reasons(self) -> list[tuple[int, str]]:
         """Every reason for an exit status other than 0, with the status."""
         found = []
-        missing = sorted({*self.undrawn} - {*self.touching})
-        if missing:
-            found.append((3, f"{number(len(missing), 'cell')} that the line may reach and whose section is not whole{some(missing)}"))
+        if self.undrawn:
+            found.append((3, f"{number(len(self.undrawn), 'cell')} that the line may reach and whose section is not whole{some(self.undrawn)}"))
         if self.without_segment:
             found.append((3, f"{number(len(self.without_segment), 'cell')} that the line passes through, without a segment{some(self.without_segment)}"))
         if any(self.not_cut_reached.values()):
@@ -88,9 +84,10 @@ class LineRecord:
             f"{number(self.with_segments, 'cell')} {'has' if self.with_segments == 1 else 'have'} {number(self.segments, 'segment')} of it, "
             f"of length {self.length:.12g} together, covering a length of {self.covered:.12g} of the line"
         )
-        missing = set(self.undrawn) - set(self.touching)
-        if missing or self.without_segment:
-            start += (f"; {number(len(missing), 'cell')} that the line may reach with a section that is not whole, and "
+        if self.straightened:
+            start += f"; {number(self.straightened, 'cell')} with mid-side nodes {were(self.straightened)} cut as straight between corners"
+        if self.undrawn or self.without_segment:
+            start += (f"; {number(len(self.undrawn), 'cell')} that the line may reach with a section that is not whole, and "
                       f"{len(self.without_segment)} that it passes through without a segment")
         if any(self.not_cut_reached.values()):
             start += f"; not cut: {counted(self.not_cut_reached)}"
@@ -142,6 +139,7 @@ class LineCut(Published):
         return str(self.record)
 
 
+@np.errstate(all="ignore")  # a cell with numbers that overflow is told of; numpy need not say so as well
 def cut_line(
     mesh: Mesh | meshio.Mesh,
     origin: object,
@@ -212,8 +210,8 @@ def _segments(
 def _lacking_in_space(
     section: PlaneCut, beside: Sides, across: Vector, owner: np.ndarray, tol: float
 ) -> tuple[list[int], list[int], list[int]]:
-    """Of the cells that the line may reach: those whose section is not whole, those of them that the plane only touches,
-    and those without a segment though a polygon has corners on both sides of the line.
+    """Of the cells that the line may reach: those whose section is not whole, those that the plane only touches, and
+    those without a segment though a polygon has corners on both sides of the line.
 
     The line cut's plane and this section's have the same normal up to rounding. `across` is in the plane and
     perpendicular to the line; `beside` are the sides of the plane that holds the line and has this normal.
@@ -231,7 +229,7 @@ def _lacking_in_space(
         starts = np.concatenate([[0], section.ends[:-1]])
         crossed = (np.maximum.reduceat(away, starts) > tol) & (np.minimum.reduceat(away, starts) < -tol)
     without = np.setdiff1d(section.polygon_cell[crossed], owner)
-    return sorted(c for c in undrawn if near[c]), sorted(c for c in touching if near[c]), without.tolist()
+    return sorted(c for c in undrawn - touching if near[c]), sorted(c for c in touching if near[c]), without.tolist()
 
 
 def _lacking_in_plane(mesh: Mesh, sides: Sides, owner: np.ndarray) -> list[int]:
@@ -248,31 +246,38 @@ def _record(
     for name, dimension, count, _ in mesh.others:
         if dimension == mesh.dimension:
             reached[name] = reached.get(name, 0) + count
-    covered, stretches = _covered(segments, origin, direction, 2 * max(tol, own))
+    along = place.unit(direction)
+    near = place.nearest_on_line(origin, direction, mesh.centre() or origin)
+    covered, stretches = _covered(segments, near, along, 2 * (max(tol, own) if own < np.inf else tol))
+    offset = place.dot(tuple(a - b for a, b in zip(near, origin)), along)  # from the origin given
+    stretches = [[a + offset, b + offset] for a, b in stretches]
     record = LineRecord(
         VERSION, mesh.source, list(origin), list(direction), tol, own, mesh.extent, mesh.total, mesh.types(), mesh.not_cut(), reached,
-        len(np.unique(owner)), len(segments), float(lengths.sum()), covered, stretches, *lacking, mesh.dropped,
+        len(np.unique(owner)), len(segments), float(lengths.sum()), covered, stretches, _curved(mesh, np.unique(owner)), *lacking, mesh.dropped,
     )
     record.warnings = [f"meshio says: {remark}" for remark in mesh.remarks]
     if not len(segments):
         record.warnings.append(f"the line has no segment in any cell; the mesh extends over {extent(record.extent)}")
     if not tol >= own:
         record.warnings.append(below_own(tol, own, "line"))
-    if not record.all_drawn and not record.only_touching:
+    if not record.all_drawn:
         record.warnings.append(f"pieces of the line may be missing in {len({*record.undrawn, *record.without_segment})} cells")
     if any(reached.values()):
         record.warnings.append(f"the line may meet cells of types that are not cut: {counted(reached)}")
     return record
 
 
-def _covered(segments: np.ndarray, origin: Vector, direction: Vector, gap: float) -> tuple[float, list[list[float]]]:
-    """The length of the part of the line that the segments cover together, and its stretches: what is no more than a
-    gap apart is one."""
-    if not len(segments):
-        return 0.0, []
-    along = np.array(place.unit(direction))
-    ends = np.sort((segments - np.array(origin)) @ along, axis=1)
+def _curved(mesh: Mesh, cells: np.ndarray) -> int:
+    return sum(int(((cells >= block.first) & (cells < block.first + len(block))).sum()) for block in mesh.blocks if block.kind.curved)
+
+
+def _covered(segments: np.ndarray, near: Vector, along: Vector, gap: float) -> tuple[float, list[list[float]]]:
+    """The length of the part of the line that the segments cover together, and its stretches, from the point `near`: what is
+    no more than a gap apart is one. Segments that are not finite are left out."""
+    ends = np.sort((segments - np.array(near)) @ np.array(along), axis=1)
     ends = ends[np.isfinite(ends).all(axis=1)]
+    if not len(ends):
+        return 0.0, []
     ends = ends[np.argsort(ends[:, 0])]
     reach = np.maximum.accumulate(ends[:, 1])
     before = np.concatenate([[-np.inf], reach[:-1]])

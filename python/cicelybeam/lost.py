@@ -12,13 +12,13 @@ from dataclasses import dataclass
 import numpy as np
 from shapely.geometry import MultiPoint, Polygon
 from shapely.geometry.base import BaseGeometry
-from shapely.ops import unary_union
 
 from .cells import Cutter, Loops
 from .mesh import Block, Mesh, Polyhedra
-from .netarea import near_bounds, neighbours, ring_shapes
+from .netarea import near_bounds, ring_shapes
 from .place import Frame, Vector, moved
 from .rings import Rings, simple_rings
+from .shapes import less, neighbours, union
 
 LEVELS = 11  # distances of 4, 16, 64 .. tolerances
 GROWTH = 4
@@ -34,7 +34,7 @@ class Near:
 
     def shape(self, cell: int) -> BaseGeometry:
         first, after = np.searchsorted(self.rings.cell, [cell, cell + 1])
-        return unary_union([shape for _, shape in ring_shapes(self.rings, range(first, after))])
+        return union([shape for _, shape in ring_shapes(self.rings, range(first, after))])
 
 
 @dataclass
@@ -65,7 +65,7 @@ def lost_area(mesh: Mesh, frame: Frame, normal: Vector, tol: float, cells: np.nd
         if missing > (1e-9 * at.area if cells[k] in within else tol * at.length / 2):
             area[k] = missing
             pieces.append(piece)
-    return Lost(cells, area, float(unary_union(pieces).area) if pieces else 0.0)
+    return Lost(cells, area, float(union(pieces).area) if pieces else 0.0)
 
 
 class _Drawn:
@@ -81,7 +81,7 @@ class _Drawn:
 
     def less(self, shape: BaseGeometry) -> BaseGeometry:
         """The part of a shape that is not drawn."""
-        return shape.difference(unary_union(self.near(shape))) if self.near else shape
+        return less(shape, self.near(shape)) if self.near else shape
 
 
 class _Estimate:
@@ -123,7 +123,7 @@ class _Estimate:
             row = np.searchsorted(loops.cells, cell)
             listed = row < len(loops.cells) and loops.cells[row] == cell
             return MultiPoint(loops.points[slice(*loops.cell_points[row])]).convex_hull if listed else Polygon(), None
-        at, further = (unary_union([self.cut(side, self.level[side, k] + more).shape(cell) for side in (0, 1)]) for more in (0, 1))
+        at, further = (union([self.cut(side, self.level[side, k] + more).shape(cell) for side in (0, 1)]) for more in (0, 1))
         return at, further
 
 

@@ -6,18 +6,16 @@ The rest goes through shapely, so that sides that do not match are right too.
 """
 from __future__ import annotations
 
-import warnings
-from collections.abc import Callable, Iterable
+from collections.abc import Iterable
 from dataclasses import dataclass
 
 import numpy as np
 from shapely.geometry import Polygon
 from shapely.geometry.base import BaseGeometry
-from shapely.ops import unary_union
-from shapely.strtree import STRtree
 
 from .coincident import coinciding
 from .rings import Rings
+from .shapes import neighbours, overlap, union
 
 
 ROUNDING = 1e-13  # of the area: what neighbours overlap by rounding
@@ -52,9 +50,9 @@ def _repeated(rings: Rings, side: np.ndarray, touched: np.ndarray) -> float:
     if not (len(above) and len(below)) and not ((len(above) or len(below)) and len(through)):
         return 0.0
     chosen = np.concatenate([above, below])
-    union = unary_union([shape for _, shape in ring_shapes(rings, chosen)])
-    beneath = _over(union, [shape for _, shape in ring_shapes(rings, near_bounds(rings, through, union.bounds))])
-    return float(rings.area[chosen].sum()) - union.area + beneath
+    both = union([shape for _, shape in ring_shapes(rings, chosen)])
+    beneath = _over(both, [shape for _, shape in ring_shapes(rings, near_bounds(rings, through, both.bounds))])
+    return float(rings.area[chosen].sum()) - both.area + beneath
 
 
 def near_bounds(rings: Rings, chosen: np.ndarray, bounds: tuple[float, float, float, float]) -> np.ndarray:
@@ -67,18 +65,10 @@ def near_bounds(rings: Rings, chosen: np.ndarray, bounds: tuple[float, float, fl
     return chosen[(high[:, 0] >= bounds[0]) & (high[:, 1] >= bounds[1]) & (low[:, 0] <= bounds[2]) & (low[:, 1] <= bounds[3])]
 
 
-def _over(union: BaseGeometry, shapes: list[BaseGeometry]) -> float:
-    """The area of the union that these shapes cover; they do not overlap."""
-    near = neighbours(list(getattr(union, "geoms", [union])))
-    return sum(part.intersection(shape).area for shape in shapes for part in near(shape))
-
-
-def neighbours(shapes: list[BaseGeometry]) -> Callable[[BaseGeometry], list[BaseGeometry]]:
-    """A function that gives those of these shapes that may meet a shape."""
-    with warnings.catch_warnings():
-        warnings.simplefilter("ignore")  # shapely 1.8 warns that queries give numbers from 2.0 on
-        tree = STRtree(shapes)
-    return lambda shape: [found if isinstance(found, BaseGeometry) else shapes[found] for found in tree.query(shape)]  # shapely 1, 2
+def _over(both: BaseGeometry, shapes: list[BaseGeometry]) -> float:
+    """The area of the union of both sides that these shapes cover; they do not overlap."""
+    near = neighbours(list(getattr(both, "geoms", [both])))
+    return sum(overlap(part, shape) for shape in shapes for part in near(shape))
 
 
 def ring_shapes(rings: Rings, chosen: Iterable[int]) -> list[tuple[int, BaseGeometry]]:

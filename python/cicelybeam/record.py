@@ -1,6 +1,7 @@
 """What a cut found and what it did not draw, to be printed and kept."""
 from __future__ import annotations
 
+import math
 from collections import Counter
 from dataclasses import asdict, dataclass, field
 from typing import TYPE_CHECKING
@@ -126,6 +127,8 @@ class PlaneRecord:
         if self.jump_area > JUMP * self.area:
             found.append((3, f"the area jumps by about {self.jump_area:.3g} here: the plane passes through a corner of a face that is not "
                              f"flat and that no other cell shares, of {number(len(self.jump_cells), 'cell')}{some(self.jump_cells)}"))
+        if not math.isfinite(self.area):
+            found.append((3, "the area is too large for a number, or not one: scale the mesh"))
         if self.not_finite:
             found.append((3, f"{number(len(self.not_finite), 'cell')} with a corner coordinate that is not finite{some(self.not_finite)}"))
         if any(self.not_cut_reached.values()):

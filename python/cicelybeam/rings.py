@@ -11,9 +11,10 @@ from dataclasses import dataclass
 
 import numpy as np
 from shapely.geometry import LinearRing, Polygon
-from shapely.ops import polygonize, unary_union
+from shapely.ops import polygonize
 
 from .cells import Loops
+from .shapes import overlap, union
 
 Row = list[int]  # the points of a ring, by number
 NEARLY = 1e-9  # of an area: what two rings may share by rounding without crossing
@@ -178,7 +179,7 @@ def _cross(shapes: list[Polygon]) -> bool:
         return True
     for k, one in enumerate(shapes):
         for other in shapes[:k]:
-            shared, least = one.intersection(other).area, min(one.area, other.area)
+            shared, least = overlap(one, other), min(one.area, other.area)
             if NEARLY * least < shared < (1 - NEARLY) * least:
                 return True
     return False
@@ -188,8 +189,8 @@ def _cut_at_crossings(rows: list[Row], points: np.ndarray, new: list[tuple[float
     """The rings around the region that is inside an odd number of rings. Points that are not known yet are added to `new`."""
     lines = [LinearRing(points[row]) for row in rows]
     edges = [(points[row], points[np.roll(row, -1)]) for row in rows]
-    parts = [part for part in polygonize(unary_union(lines)) if _inside(part.representative_point(), edges)]
-    region = unary_union(parts)
+    parts = [part for part in polygonize(union(lines)) if _inside(part.representative_point(), edges)]
+    region = union(parts)
     number = {tuple(points[k]): k for row in rows for k in row}
     found: list[Row] = []
     for shape in getattr(region, "geoms", [region]):

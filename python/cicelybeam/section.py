@@ -86,8 +86,8 @@ class Section:
 
     @property
     def tol(self) -> float:
-        """The tolerance, or the mesh's own where that is larger: what is closer cannot be told apart."""
-        return max(self.asked.own, self.asked.tol)
+        """The tolerance, or the mesh's own where that is larger and finite: what is closer cannot be told apart."""
+        return max(self.asked.own, self.asked.tol) if self.asked.own < np.inf else self.asked.tol
 
     @cached_property
     def side(self) -> np.ndarray:
@@ -102,7 +102,7 @@ class Section:
 
     @cached_property
     def jumps(self) -> Jumps:
-        return find_jumps(self.mesh, self.near, self.sides, self.reached.through)
+        return find_jumps(self.mesh, self.near, self.sides, np.setdiff1d(self.reached.through, self.reached.not_finite))
 
     @cached_property
     def doubtful(self) -> np.ndarray:

@@ -116,3 +116,22 @@ def test_polygon_that_the_line_crosses_without_a_segment_is_told(cube):
     record = cicelybeam.cut_line(cube, (0.5, 0.5, 0.5), (3, -5, 6), 0).record
     assert (record.segments, record.undrawn, record.without_segment) == (0, [], [0]) and not record.all_drawn
     assert cicelybeam.cut_line(cube, (0.5, 0.5, 0.5), (3, -5, 6)).record.all_drawn
+
+
+def test_quadratic_cells_are_told():
+    points = np.concatenate([CUBE[[0, 1, 3, 4]], np.full((6, 3), 0.5)])
+    record = cicelybeam.cut_line(meshio.Mesh(points, [("tetra10", np.arange(10)[None])]), (0, 0.2, 0.2), (1, 0, 0)).record
+    assert record.straightened == 1 and "1 cell with mid-side nodes was cut as straight" in record.sentence()
+
+
+def test_touched_cells_are_no_reason():
+    """The line's plane runs along edges of tetrahedra: nothing is missing."""
+    record = cicelybeam.cut_line(box(2, "tetra"), (0, 0.25, 0.5), (1, 0, 0)).record
+    assert record.reasons == [] and record.all_drawn and record.covered == pytest.approx(1)
+
+
+@pytest.mark.parametrize("far", [1e3, 1e6])
+def test_origin_far_away(far):
+    record = cicelybeam.cut_line(box(4, "tetra"), (0.5 + 3 * far, 0.375 + far, 0.3), (3, 1, 0)).record
+    near = cicelybeam.cut_line(box(4, "tetra"), (0.5, 0.375, 0.3), (3, 1, 0)).record
+    assert record.covered == pytest.approx(near.covered, rel=1e-9) and record.segments == near.segments and record.reasons == []
