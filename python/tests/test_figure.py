@@ -113,6 +113,12 @@ def test_axes_of_an_inclined_plane():
     assert cut.record.as_dict()["u"] == list(cut.frame.u) and "u along" in str(cut.record)
 
 
+def test_labels_that_are_too_long_are_names_alone():
+    cut = cicelybeam.cut_plane(box(1), (0.5, 0.5, 0.5), (1, 2, 3))
+    axes = figure(cut, size=(60, 45)).axes[0]
+    assert (axes.get_xlabel(), axes.get_ylabel()) == ("u", "v")
+
+
 @pytest.mark.parametrize("direction,label", [((0, -1, 0), "y"), ((1, 1, 0), "s, along (0.7071, 0.7071, 0) from (0.3, 0.3, 0.3)")])
 def test_axes_of_a_line(direction, label):
     cut = cicelybeam.cut_line(box(2), (0.3, 0.3, 0.3), direction)
