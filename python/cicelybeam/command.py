@@ -218,7 +218,7 @@ def _size(text: str) -> tuple[float, ...]:
 def _run(given: argparse.Namespace) -> int:
     _check_outputs(given)
     mesh = meshes.read(given.mesh)
-    if given.picture:
+    if given.picture or given.report:
         check_by(mesh, given.colour)
     cut = _cut(given, mesh)
     if given.quiet or _to_screen(given):

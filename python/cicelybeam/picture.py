@@ -4,7 +4,8 @@ from __future__ import annotations
 import io
 import warnings
 from collections.abc import Callable
-from dataclasses import dataclass, field, fields
+from dataclasses import dataclass, field, fields, replace
+from numbers import Real
 from pathlib import Path
 
 import matplotlib
@@ -42,11 +43,11 @@ STYLE = {
 
 @dataclass(frozen=True)
 class Look:
-    """How a picture looks. Size in millimetres: width and height, or the width alone. Points to an inch are of a .png."""
+    """How a picture looks. The size is in millimetres: width and height, or the width alone. The points to an inch are a .png's."""
 
     colour: str = "type"
     title: str | None = None  # None: what was drawn, in words; an empty one for none
-    size: tuple[float, ...] | None = None
+    size: float | tuple[float, ...] | None = None
     dpi: float | None = None
     edges: str = "auto"  # or on, off
 
@@ -60,7 +61,6 @@ def draw(cut: PlaneCut | LineCut, path: str | Path, **look: object) -> None:
     path, wanted = Path(path), look_of(look)
     check_suffix(path, PICTURES, "a picture")
     check_places(cut.mesh.source, [path])
-    check_by(cut.mesh, wanted.colour)
     try:
         contents = rendered(cut, wanted, path.suffix.lower())
     except OSError as error:  # matplotlib writes some formats to a file of its own first
@@ -77,12 +77,12 @@ def look_of(given: dict[str, object]) -> Look:
     wanted = Look(**given)  # type: ignore[arg-type]
     if wanted.edges not in ("on", "off", "auto"):
         raise CicelybeamError(f"edges are on, off or auto, not {wanted.edges!r}")
-    size = () if wanted.size is None else wanted.size
-    if len(size) > 2 or not all(20 <= length <= 2000 for length in size):
-        raise CicelybeamError(f"the size {wanted.size} is not one or two lengths from 20 to 2000 millimetres")
-    if wanted.dpi is not None and not 20 <= wanted.dpi <= 2400:
-        raise CicelybeamError(f"{wanted.dpi} points to an inch are not from 20 to 2400")
-    return wanted
+    size = (wanted.size,) if isinstance(wanted.size, Real) else wanted.size or ()
+    if len(size) > 2 or not all(isinstance(length, Real) and 20 <= length <= 2000 for length in size):
+        raise CicelybeamError(f"the size {wanted.size!r} is not one or two lengths from 20 to 2000 millimetres")
+    if wanted.dpi is not None and not (isinstance(wanted.dpi, Real) and 20 <= wanted.dpi <= 2400):
+        raise CicelybeamError(f"{wanted.dpi!r} is not a number of points to an inch from 20 to 2400")
+    return replace(wanted, size=tuple(size) or None)
 
 
 def figure_of(cut: PlaneCut | LineCut, look: Look) -> Figure:
@@ -102,6 +102,7 @@ def figure_of(cut: PlaneCut | LineCut, look: Look) -> Figure:
 
 def rendered(cut: PlaneCut | LineCut, look: Look, suffix: str) -> bytes:
     """The contents of a picture's file. The same cut gives the same ones: no dates."""
+    check_by(cut.mesh, look.colour)
     out = io.BytesIO()
     metadata = {".svg": {"Date": None}, ".pdf": {"CreationDate": None}}.get(suffix)
     with matplotlib.rc_context({**matplotlib.rcParamsDefault, **STYLE}), warnings.catch_warnings():

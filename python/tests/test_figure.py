@@ -203,6 +203,7 @@ def test_size_and_points_to_an_inch(tmp_path):
     cut = cicelybeam.cut_plane(box(2), (0, 0, 0.3), (0, 0, 1))
     cut.draw(tmp_path / "a.png", size=(90, 60), dpi=254)
     assert image.imread(tmp_path / "a.png").shape[:2] == (600, 900)
+    cut.draw(tmp_path / "b.svg", size=90)
     cut.draw(tmp_path / "a.svg", size=(90, 60))
     text = (tmp_path / "a.svg").read_text()
     assert float(re.search(r'width="([\d.]+)pt"', text)[1]) == pytest.approx(90 / 25.4 * 72, abs=0.01)
@@ -234,12 +235,14 @@ def test_names_are_no_formulas(tmp_path):
 
 @pytest.mark.parametrize("look,words", [
     ({"title": r"$\nosuch$"}, "cannot be set"), ({"size": (1,)}, "20 to 2000 millimetres"), ({"size": (30, 20)}, "too small"),
-    ({"dpi": 1}, "not from 20 to 2400"), ({"edges": "red"}, "on, off or auto"), ({"colour": "heat"}, "no cell field 'heat'"),
+    ({"size": "wide"}, "20 to 2000 millimetres"), ({"dpi": "fine"}, "from 20 to 2400"), ({"dpi": 1}, "from 20 to 2400"), ({"edges": "red"}, "on, off or auto"), ({"colour": "heat"}, "no cell field 'heat'"),
 ])
 def test_looks_that_are_refused(tmp_path, look, words):
     cut = cicelybeam.cut_plane(box(2), (0, 0, 0.3), (0, 0, 1))
     with pytest.raises(cicelybeam.CicelybeamError, match=words):
         cut.draw(tmp_path / "a.svg", **look)
+    with pytest.raises(cicelybeam.CicelybeamError, match=words):
+        cut.write(tmp_path / "a.html", **look)
     assert not list(tmp_path.iterdir())
 
 
