@@ -16,7 +16,7 @@ from .mesh import Block, Mesh, Polyhedra
 from .place import ABOVE, BELOW, Frame, Sides
 
 
-JUMP = 1e-9  # of the area: a jump that is told
+JUMP = 1e-9  # of the area: a smaller jump is not told
 
 
 @dataclass(frozen=True)

@@ -8,7 +8,6 @@ from typing import TYPE_CHECKING
 
 import numpy as np
 
-from .jumps import JUMP
 from .place import Sides, distances
 from .version import VERSION
 
@@ -124,7 +123,7 @@ class PlaneRecord:
             kinds = Counter(cell.what for cell in self.lost_cells)
             found.append((3, f"{number(len(self.lost_cells), 'cell')} with area lost, about {self.lost_area:.3g} or "
                              f"{100 * self.lost_share:.3g} % of the whole: " + ", ".join(f"{count} with {what}" for what, count in kinds.items())))
-        if self.jump_area > JUMP * self.area:
+        if self.jump_area:
             found.append((3, f"the area jumps by about {self.jump_area:.3g} here: the plane passes through a corner of a face that is not "
                              f"flat and that no other cell shares, of {number(len(self.jump_cells), 'cell')}{some(self.jump_cells)}"))
         if not math.isfinite(self.area):
@@ -175,7 +174,7 @@ class PlaneRecord:
         if self.lost_cells:
             found.append(f"an area of about {self.lost_area:.3g} is lost in {number(len(self.lost_cells), 'cell')}, "
                          f"{100 * self.lost_share:.3g} % of the whole")
-        if self.jump_area > JUMP * self.area:
+        if self.jump_area:
             found.append(f"the area jumps by about {self.jump_area:.3g} at this plane, by faces that are not flat")
         if self.repeated_area:
             where = "of cells that are in the mesh twice" if self.doubled_polygons else "of cells on both sides of the plane"
@@ -233,7 +232,7 @@ class PlaneRecord:
             ("self-crossing", self.self_crossing, f"{number(self.self_crossing, 'cell')} with polygons that cross, by the even-odd rule"),
             ("touched", self.touching_cells, f"{number(self.touching_cells, 'cell')} where what is not drawn bounds no area"),
             ("lost", self.lost_cells, f"about {self.lost_area:.6g}, {100 * self.lost_share:.3g} % of the whole, in {number(len(self.lost_cells), 'cell')}"),
-            ("jumps", self.jump_area > JUMP * self.area, f"by about {self.jump_area:.6g} at this plane, by faces that are not flat, of "
+            ("jumps", self.jump_area, f"by about {self.jump_area:.6g} at this plane, by faces that are not flat, of "
                                                         f"{number(len(self.jump_cells), 'cell')}{some(self.jump_cells)}"),
             ("no edge", self.crossed_without_edge, f"{number(len(self.crossed_without_edge), 'cell')} passed through{some(self.crossed_without_edge)}"),
             ("no segment", self.crossed_face_without_segment, f"{number(len(self.crossed_face_without_segment), 'cell')} with a face passed through"

@@ -102,7 +102,8 @@ class Section:
 
     @cached_property
     def jumps(self) -> Jumps:
-        return find_jumps(self.mesh, self.near, self.sides, np.setdiff1d(self.reached.through, self.reached.not_finite))
+        found = find_jumps(self.mesh, self.near, self.sides, np.setdiff1d(self.reached.through, self.reached.not_finite))
+        return found if found.area > JUMP * self.net.area else Jumps([], 0.0)
 
     @cached_property
     def doubtful(self) -> np.ndarray:
@@ -117,7 +118,7 @@ class Section:
 
     def drawn(self, looked_at: int) -> Drawn:
         """How much is drawn. Where something is not drawn in more cells than are to be looked at, area counts as lost."""
-        if self.jumps.area > JUMP * self.net.area or len(self.reached.not_finite):
+        if self.jumps.area or len(self.reached.not_finite):
             return Drawn.NOT_ALL
         if not len(self.doubtful):
             return Drawn.ALL
