@@ -14,6 +14,7 @@ from matplotlib.cm import ScalarMappable
 from matplotlib.collections import LineCollection, PathCollection
 from matplotlib.colors import Normalize, to_rgb
 from matplotlib.figure import Figure
+from matplotlib.lines import Line2D
 from matplotlib.patches import Patch
 from matplotlib.path import Path as Outline
 
@@ -222,14 +223,9 @@ def _section(cut: PlaneCut, look: Look) -> Sheet:
     space = cut.in_space()
     points = project(space) if len(space) else np.zeros((0, 2))
     sheet = Sheet(*labels, equal=True)
-    _fill(sheet, cut.mesh, _Rings(points, cut.nodes, cut.ends, cut.polygon_cell), look)
-    lost = {cell.cell for cell in cut.record.lost_cells}
-    edges = undrawn_edges(cut)
-    for colour, width, chosen in ((INK, 0.6, [e for cell, e in edges if cell not in lost]), (RED, 1.0, [e for cell, e in edges if cell in lost])):
-        if chosen:
-            lines = points[np.array(chosen)]
-            sheet.axes.add_collection(LineCollection(lines, colors=colour, linewidths=width, zorder=4), autolim=False)
-            sheet.show(lines.reshape(-1, 2))
+    rings = _Rings(points, cut.nodes, cut.ends, cut.polygon_cell)
+    _fill(sheet, cut.mesh, rings, look)
+    _draw_undrawn(sheet, cut, points, 0.0 if look.edges == "off" else rings.middling_size())
     _mark(sheet, findings(cut), project)
     record = cut.record
     words = f"{number(record.polygons, 'polygon')}, area {record.area:.6g}"
@@ -237,6 +233,20 @@ def _section(cut: PlaneCut, look: Look) -> Sheet:
         words += f", about {record.lost_area:.2g} lost"
     sheet.title = words if look.title is None else look.title
     return sheet
+
+
+def _draw_undrawn(sheet: Sheet, cut: PlaneCut, points: np.ndarray, size: float) -> None:
+    """The edges that were not drawn: in red where area is lost, else as thin as the cells' own."""
+    lost = {cell.cell for cell in cut.record.lost_cells}
+    edges = undrawn_edges(cut)
+    touched, missing = [edge for cell, edge in edges if cell not in lost], [edge for cell, edge in edges if cell in lost]
+    for colour, chosen in ((INK, touched), (RED, missing)):
+        if chosen:
+            lines = LineCollection(points[np.array(chosen)], colors=colour, linewidths=1.0, zorder=4)
+            sheet.axes.add_collection(lines, autolim=False)
+            sheet.show(points[np.array(chosen)].reshape(-1, 2))
+            if colour == INK:
+                sheet.when_scaled.append(lambda points_to_one, thin=lines: thin.set_linewidth(min(0.6, 0.08 * size * points_to_one)))
 
 
 def view(cut: PlaneCut) -> tuple[Callable[[np.ndarray], np.ndarray], tuple[str, str]]:
@@ -273,9 +283,10 @@ def _mark(sheet: Sheet, found: list[Finding], project: Callable[[np.ndarray], np
         if places:
             at = project(np.array(places))
             sheet.show(at)
-            sheet.handles += sheet.axes.plot(
-                *at.T, marker, color=colour, markerfacecolor=fill, markersize=size if len(at) < 200 else size / 2,
-                markeredgewidth=0.8, label=f"{words}: {number(len(at), 'cell')}", zorder=5, clip_on=False)
+            shrunk = max(0.15, min(1.0, (200 / len(at)) ** 0.5))  # thousands of marks must not hide the section
+            look = {"marker": marker, "color": colour, "markerfacecolor": fill, "linestyle": "none"}
+            sheet.axes.plot(*at.T, **look, markersize=size * shrunk, markeredgewidth=0.8 * shrunk, zorder=5, clip_on=False)
+            sheet.handles.append(Line2D([], [], **look, markersize=size, markeredgewidth=0.8, label=f"{words}: {number(len(at), 'cell')}"))
 
 
 def _line_in_plane(cut: LineCut, look: Look) -> Sheet:

@@ -10,6 +10,8 @@ from .line import LineCut
 from .plane import PlaneCut
 
 Pair = tuple[int, int]
+Point = list[float]
+Segment = tuple[Point, Point]
 
 
 @dataclass(frozen=True)
@@ -62,71 +64,100 @@ def _middle(points: list[list[float]]) -> list[float]:
 
 def not_cut(cut: PlaneCut) -> list[Finding]:
     """Cells of types that are not cut, which fill space and which the plane may reach."""
-    mesh, tol = cut.mesh, cut.record.tolerance
-    of_node = place.sides(mesh.points, cut.near.origin, cut.near.normal, tol).of_node
+    mesh = cut.mesh
+    of_node = place.sides(mesh.points, cut.near.origin, cut.near.normal, cut.record.tolerance).of_node
     found = []
-    for (name, dimension, count, nodes), first in zip(mesh.others, mesh.other_first):
+    for (name, dimension, _, nodes), first in zip(mesh.others, mesh.other_first):
         if dimension != 3 or nodes is None or nodes.dtype.kind not in "iu":
             continue
-        known = ((nodes >= 0) & (nodes < len(mesh.points))).all(axis=1)
-        for k in np.flatnonzero(known):
-            if np.bitwise_and.reduce(of_node[nodes[k]]) == 0:
-                found.append(Finding(first + int(k), name, "cells of this type are not cut", None, mesh.points[nodes[k]].mean(axis=0).tolist()))
+        known = np.flatnonzero(((nodes >= 0) & (nodes < len(mesh.points))).all(axis=1))
+        reached = known[np.bitwise_and.reduce(of_node[nodes[known]], axis=1) == 0]
+        found += [Finding(first + int(k), name, "cells of this type are not cut", None, mesh.points[nodes[k]].mean(axis=0).tolist())
+                  for k in reached]
     return found
 
 
 def undrawn_edges(cut: PlaneCut) -> list[tuple[int, Pair]]:
-    """The edges that were not drawn, each with its cell, as pairs of points of the cut."""
-    away = place.distances(cut.mesh.points, cut.near.origin, cut.near.normal)
-    drawn = _drawn_edges(cut, {u.cell for u in cut.record.undrawn})
-    rows = {int(cell): k for k, cell in enumerate(cut.cells)}
+    """The edges that were not drawn, each with its cell, as pairs of points of the cut. A cell of one edge has only its ends."""
+    drawn = _drawn_edges(cut)
     space = cut.in_space()
     found = []
-    for u in cut.record.undrawn:
-        if u.cell not in rows:  # it lists no edge
+    for row in np.flatnonzero(cut.counts[:, 2] + cut.counts[:, 3]).tolist():
+        cell, (first, after) = int(cut.cells[row]), cut.cell_points[row].tolist()
+        if cut.counts[row, 0] == 1:
+            found.append((cell, (first, first + 1)))
             continue
-        first, after = cut.cell_points[rows[u.cell]]
-        block = cut.mesh.block_of(u.cell)
         edges: dict[Pair, None] = {}
-        for face in block.faces(u.cell - block.first):
-            for ends in face_segments(cut.mesh.points[face], away[face], cut.record.tolerance):
-                a, b = sorted(first + int(np.argmin(np.linalg.norm(space[first:after] - end, axis=1))) for end in ends)
-                if a != b and (a, b) not in drawn:
-                    edges[a, b] = None
-        found += [(u.cell, edge) for edge in edges]
+        for ends in _segments_of(cut, cell):
+            a, b = sorted(first + int(np.argmin(((space[first:after] - end) ** 2).sum(axis=1))) for end in ends)
+            if a != b and (a, b) not in drawn:
+                edges[a, b] = None
+        found += [(cell, edge) for edge in edges]
     return found
 
 
-def _drawn_edges(cut: PlaneCut, cells: set[int]) -> set[Pair]:
-    """The edges of the rings of these cells."""
-    found = set()
-    for k in np.flatnonzero(np.isin(cut.polygon_cell, list(cells))):
+def _drawn_edges(cut: PlaneCut) -> set[Pair]:
+    """The edges of the rings of cells with edges that were not drawn."""
+    found: set[Pair] = set()
+    for k in np.flatnonzero(np.isin(cut.polygon_cell, cut.cells[(cut.counts[:, 2] + cut.counts[:, 3]) > 0])):
         ring = cut.nodes[cut.ends[k - 1] if k else 0 : cut.ends[k]].tolist()
-        found.update(tuple(sorted(pair)) for pair in zip(ring, ring[1:] + ring[:1]))
+        found.update((min(pair), max(pair)) for pair in zip(ring, ring[1:] + ring[:1]))
     return found
 
 
-def face_segments(corners: np.ndarray, away: np.ndarray, tol: float) -> list[tuple[np.ndarray, np.ndarray]]:
-    """The segments of one face, by document 01's rule ('The segment'): the library counts them and does not tell them apart."""
-    if not (np.abs(away) > tol).any():
+def _segments_of(cut: PlaneCut, cell: int) -> list[Segment]:
+    block = cut.mesh.block_of(cell)
+    faces = [cut.mesh.points[face].tolist() for face in block.faces(cell - block.first)]
+    return [segment for face in faces for segment in face_segments(face, cut.near, cut.record.tolerance)]
+
+
+def face_segments(corners: list[Point], plane: place.Frame, tol: float) -> list[Segment]:
+    """The segments of one face, by document 01's rule ('The segment') in its order of operations.
+
+    The library counts the edges that they become, and tells only those that are drawn.
+    """
+    away = [_away(corner, plane) for corner in corners]
+    if not any(d > tol or d < -tol for d in away):
         return []
-    signed = away if (away > tol).any() else -away
-    inside = signed >= -tol
-    clipped: list[tuple[np.ndarray, float]] = []  # points, and their distances from the plane
-    for a in range(len(corners)):
-        b = (a + 1) % len(corners)
-        if inside[a] != inside[b]:
-            t = signed[a] / (signed[a] - signed[b])
-            _push(clipped, corners[a] + t * (corners[b] - corners[a]), 0.0, tol)
-        if inside[b]:
-            _push(clipped, corners[b], abs(signed[b]), tol)
-    if len(clipped) > 1 and np.linalg.norm(clipped[-1][0] - clipped[0][0]) <= tol:
+    sign = 1.0 if any(d > tol for d in away) else -1.0
+    clipped: list[Point] = []
+    for k, (a, da) in enumerate(zip(corners, away)):
+        b, db = corners[(k + 1) % len(corners)], away[(k + 1) % len(corners)]
+        inside_a, inside_b = sign * da >= -tol, sign * db >= -tol
+        if inside_a != inside_b:
+            _push(clipped, _crossing(a, sign * da, b, sign * db, plane), tol)
+        if inside_b:
+            _push(clipped, b, tol)
+    if len(clipped) > 1 and _dist2(clipped[0], clipped[-1]) <= tol * tol:
         clipped.pop()
-    pairs = zip(clipped, clipped[1:] + clipped[:1])
-    found = [(p, q) for (p, d), (q, e) in pairs if d <= tol and e <= tol and np.linalg.norm(p - q) > tol]
-    return found[:1] if len(clipped) == 2 else found
+    found: list[Segment] = []
+    for a, b in zip(clipped, clipped[1:] + clipped[:1]):
+        on = abs(_away(a, plane)) <= tol and abs(_away(b, plane)) <= tol and _dist2(a, b) > tol * tol
+        if on and not any(_alike(a, b, p, q, tol) or _alike(a, b, q, p, tol) for p, q in found):
+            found.append((a, b))
+    return found
 
 
-def _push(clipped: list[tuple[np.ndarray, float]], point: np.ndarray, away: float, tol: float) -> None:
-    if not clipped or np.linalg.norm(point - clipped[-1][0]) > tol:
-        clipped.append((point, away))
+def _away(point: Point, plane: place.Frame) -> float:
+    return place.dot([x - o for x, o in zip(point, plane.origin)], plane.normal)
+
+
+def _crossing(a: Point, da: float, b: Point, db: float, plane: place.Frame) -> Point:
+    t = da / (da - db) if abs(da - db) > np.finfo(float).tiny else 0.5
+    point = [x + t * (y - x) for x, y in zip(a, b)]
+    away = _away(point, plane)
+    return [x - away * n for x, n in zip(point, plane.normal)]
+
+
+def _dist2(a: Point, b: Point) -> float:
+    step = [x - y for x, y in zip(a, b)]
+    return place.dot(step, step)
+
+
+def _push(clipped: list[Point], point: Point, tol: float) -> None:
+    if not clipped or _dist2(clipped[-1], point) > tol * tol:
+        clipped.append(point)
+
+
+def _alike(a: Point, b: Point, p: Point, q: Point, tol: float) -> bool:
+    return _dist2(a, p) <= tol * tol and _dist2(b, q) <= tol * tol

@@ -343,8 +343,19 @@ def test_segments_of_a_face_are_as_many_as_the_librarys(corners, seed, tol):
     points = np.stack([np.cos(angles), np.sin(angles), random.choice([-1.0, -0.5, 0.0, 0.5, 1.0], corners)], -1)
     mesh = meshio.Mesh(points, [("polyhedron", [[np.arange(corners)]])])
     cut = cicelybeam.cut_plane(mesh, (0, 0, 0), (0, 0, 1), tol)
-    found = face_segments(points, points[:, 2], tol)
+    found = face_segments(points.tolist(), cut.near, tol)
     assert len(found) >= cut.record.listed and (len(found) > 0) == (cut.record.listed > 0)
+    assert len(undrawn_edges(cut)) == cut.record.flat + cut.record.open
+
+
+@given(st.sampled_from(["hexahedron", "wedge", "tetra"]), st.tuples(*3 * [st.sampled_from([0.2, 0.25, 0.5])]), vectors,
+       st.sampled_from([None, 0.0, 1e-17, 0.02]), st.booleans())
+def test_undrawn_edges_are_those_that_are_counted(kind, origin, normal, tol, moved):
+    """As many as are flat or open, also with a tolerance at which rounding decides, and on grids that are not straight."""
+    mesh = box(2, kind)
+    if moved:
+        mesh.points += np.random.default_rng(1).uniform(-0.1, 0.1, mesh.points.shape)
+    cut = cicelybeam.cut_plane(mesh, origin, normal, tol)
     assert len(undrawn_edges(cut)) == cut.record.flat + cut.record.open
 
 
