@@ -55,7 +55,7 @@ def lost_area(mesh: Mesh, frame: Frame, normal: Vector, tol: float, cells: np.nd
     drawn = np.zeros(len(cells))
     own = np.isin(rings.cell, cells)
     np.add.at(drawn, np.searchsorted(cells, rings.cell[own]), rings.area[own])
-    doubtful = np.flatnonzero(~(found.area - drawn <= tol * found.size) | np.isin(cells, flat))
+    doubtful = np.flatnonzero(~(found.area - drawn <= tol * found.size) | (found.level < 0).any(axis=0) | np.isin(cells, flat))
     shapes = {int(k): found.shapes(int(k), cells[k] in within, loops) for k in doubtful}
     area, pieces = np.zeros(len(cells)), []
     covered = _Drawn(rings, [shape for pair in shapes.values() for shape in pair])

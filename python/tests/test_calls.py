@@ -110,6 +110,40 @@ def test_gaps_next_to_the_tolerance(kind, seed, tolerances, inclined):
     assert cut.record.crossed_face_without_segment == gaps_by_calls(mesh, cut)
 
 
+near_tol = st.floats(-9, 9)
+spread = st.sampled_from([0.3, 2.0, 30.0, 1e6, 1e11])
+
+
+@settings(max_examples=300)
+@given(st.integers(3, 5), st.lists(st.tuples(near_tol, st.floats(-1, 1), st.floats(-1, 1)), min_size=5, max_size=5), spread, st.booleans())
+def test_faces_that_surely_have_a_segment(n, corners, width, far_below):
+    """Faces a few tolerances high and some wide, down to spikes narrower than one: what is called sure is so by a call."""
+    tol = cicelybeam.slice_tolerance(np.array([[1.0, 1.0, 1.0], [-1, -1, -1]]))
+    points = np.array([(width * x * tol, width * y * tol, z * tol) for z, x, y in corners[:n]])
+    points[:, 2] -= 1e10 * tol * far_below * (points[:, 2] < 0)
+    mesh = cicelybeam.of_meshio(meshio.Mesh(np.concatenate([points, [[1, 1, 1], [-1, -1, -1]]]), [("tetra", [[0, 1, 2, n]])]))
+    cutter = Cutter(mesh, (0, 0, 0), (0, 0, 1), tol, tol)
+    bits = place.sides(mesh.points, (0, 0, 0), (0, 0, 1), tol).of_node
+    faces = np.arange(n)[None]
+    if (bits[:n] == 1).any() and (bits[:n] == 2).any() and cells._surely(cutter, faces, bits[faces])[0]:
+        assert cutter.edges_of_faces(faces)[0] > 0
+
+
+@pytest.mark.parametrize("heights,number", [
+    ((1, 1, 1, 1, -1, -1, -1, -1), 4),
+    ((1, -1, 1, 1, -1, -1, -1, -1), 5),
+    ((1, -1, 1, -1, 1, 1, 1, 1), -1),  # a face with four changes of side
+    ((1, 0, 1, 1, -1, -1, -1, -1), -1),  # a corner in the plane
+    ((1, float("nan"), 1, 1, -1, -1, -1, -1), -1),
+])
+def test_when_no_face_has_two_segments(heights, number):
+    points = CUBE.copy()
+    points[:, 2] = heights
+    mesh = cicelybeam.of_meshio(meshio.Mesh(points, [("hexahedron", [list(range(8))])]))
+    sides = place.sides(mesh.points, (0.5, 0.5, 0), (0, 0, 1), 1e-12)
+    assert cells._segments_at_most(mesh.blocks[0], np.array([0]), sides).tolist() == [number]
+
+
 def test_few_faces_are_asked_for(monkeypatch):
     """In general position none, and where the plane passes through many nodes few."""
     asked = []

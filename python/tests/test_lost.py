@@ -49,6 +49,24 @@ def test_what_another_cell_draws_is_not_lost():
     assert record.undrawn[0].reason == "touching" and record.reasons == [] and record.area == pytest.approx(1)
 
 
+@pytest.mark.parametrize("wide", [10.0, 100.0])
+def test_slivers_are_not_lost(wide):
+    """The upper brick gets wide quickly: 4 tolerances above the plane it is many of them wider than what is drawn below it."""
+    upper = RAISED.copy()
+    upper[4:, :2] += wide * (2 * CUBE[4:, :2] - 1)
+    points = np.concatenate([upper, CUBE[:4] - [0, 0, 1]])
+    mesh = meshio.Mesh(points, [("hexahedron", [list(range(8)), [8, 9, 10, 11, 0, 1, 2, 3]])])
+    record = cicelybeam.cut_plane(mesh, (0, 0, 0), (0, 0, 1)).record
+    assert [cell.reason for cell in record.undrawn] == ["touching"] and record.nothing_lost and record.area == pytest.approx(1)
+
+
+def test_edge_between_shallow_faces():
+    """Touched along an edge from which the faces rise by a hundredth."""
+    points = np.array([[0, 0, 0], [1, 0, 0], [0.5, 1, 0.01], [0.5, -1, 0.01]])
+    record = cicelybeam.cut_plane(meshio.Mesh(points, [("tetra", [[0, 1, 2, 3]])]), (0, 0, 0), (0, 0, 1)).record
+    assert (record.open, record.touching_cells, record.lost_area, record.reasons) == (1, 1, 0, [])
+
+
 def test_area_lost_twice_counts_once():
     """Bricks above and below the plane with three corners each in it, and none draws."""
     points = np.concatenate([RAISED, CUBE[:4] - [0, 0, 1], [[0, 1, -0.5]]])
@@ -140,6 +158,12 @@ def test_shift_that_is_not_found():
     cut = cicelybeam.cut_plane(without(OPEN_BRICK), (0, 0, 0.5), (0, 0, 1), shift=True)
     assert cut.record.shift == 0 and cut.record.shift_that_draws_all is None and cut.record.reasons
     assert cut.record.advice == "no parallel plane up to 1e-06 away does better; --shift-most looks further"
+
+
+def test_shift_does_not_leave_the_mesh():
+    """At the top of a brick that lacks a side every plane inside is open, and one outside draws nothing."""
+    record = cicelybeam.cut_plane(without(OPEN_BRICK), (0, 0, 1), (0, 0, 1), shift=True).record
+    assert record.shift == 0 and record.lost_area == pytest.approx(1) and record.reasons
 
 
 def test_shift_most():
