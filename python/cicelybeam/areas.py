@@ -21,11 +21,11 @@ def area_by(cut: PlaneCut, by: str = "group") -> dict[str, float]:
     """
     check_by(cut.mesh, by)
     if by == "cell":
-        names, index = np.unique(cut.polygon_cell, return_inverse=True)
-        names = names.astype(str).tolist()
+        cells, index = np.unique(cut.polygon_cell, return_inverse=True)
+        names = cells.astype(str).tolist()
     else:
         names, index = classes(cut.mesh, cut.polygon_cell, by)
-    sums = np.bincount(index, weights=cut.polygon_area, minlength=len(names))
+    sums = np.bincount(index, weights=cut.polygon_area, minlength=len(names)).tolist()
     if cut.record.repeated_area:
         sums = [_net(cut, index == k) if (cut.side[index == k] != 0).any() else total for k, total in enumerate(sums)]
     found: dict[str, float] = {}

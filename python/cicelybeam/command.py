@@ -7,6 +7,7 @@ import os
 import shlex
 import sys
 from pathlib import Path
+from typing import Any
 
 from . import mesh as meshes
 from .groups import check_by
@@ -99,8 +100,9 @@ class _Flag(_Once):
 class _Parser(argparse.ArgumentParser):
     """Every option once, and by its whole name."""
 
-    def __init__(self, *names, **more) -> None:
-        super().__init__(*names, allow_abbrev=False, formatter_class=argparse.RawDescriptionHelpFormatter, **more)
+    def __init__(self, prog: str, description: str, epilog: str) -> None:
+        super().__init__(prog, description=description, epilog=epilog, allow_abbrev=False,
+                         formatter_class=argparse.RawDescriptionHelpFormatter)
 
     def add_argument(self, *names, **more):
         if names and names[0].startswith("--") and "action" not in more:
@@ -291,7 +293,7 @@ class _Bar:
     """A progress bar on a terminal, nothing elsewhere."""
 
     def __init__(self) -> None:
-        self.bar = None
+        self.bar: Any = None  # tqdm's
         self.step = self._step if sys.stderr.isatty() else None
 
     def _step(self, done: int, total: int) -> None:
@@ -319,9 +321,9 @@ def _write(given: argparse.Namespace, cut: PlaneCut | LineCut) -> None:
         write_page(cut, given.report, command, **look)
     elif given.report:
         report.write_report(cut, given.report, command, given.colour)
-    if getattr(given, "table", None):
+    if isinstance(cut, PlaneCut) and given.table:
         report.write_table(cut, given.table)
-    if getattr(given, "vtk", None):
+    if isinstance(cut, PlaneCut) and given.vtk:
         report.write_polygons(cut, given.vtk)
     if given.picture:
         from .picture import draw

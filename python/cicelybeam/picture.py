@@ -3,8 +3,9 @@ from __future__ import annotations
 
 import io
 import warnings
-from collections.abc import Callable
+from collections.abc import Callable, Iterable
 from dataclasses import dataclass, field, fields, replace
+from functools import partial
 from numbers import Real
 from pathlib import Path
 
@@ -48,7 +49,7 @@ class Look:
 
     colour: str = "type"
     title: str | None = None  # None: what was drawn, in words; an empty one for none
-    size: float | tuple[float, ...] | None = None
+    size: tuple[float, ...] | None = None  # given as a number, it is the width
     dpi: float | None = None
     edges: str = "auto"  # or on, off
 
@@ -78,12 +79,16 @@ def look_of(given: dict[str, object]) -> Look:
     wanted = Look(**given)  # type: ignore[arg-type]
     if wanted.edges not in ("on", "off", "auto"):
         raise CicelybeamError(f"edges are on, off or auto, not {wanted.edges!r}")
-    size = (wanted.size,) if isinstance(wanted.size, Real) else wanted.size or ()
-    if len(size) > 2 or not all(isinstance(length, Real) and 20 <= length <= 2000 for length in size):
+    size = () if wanted.size is None else (wanted.size,) if isinstance(wanted.size, Real) else tuple(wanted.size)
+    if len(size) > 2 or not all(_between(length, 20, 2000) for length in size):
         raise CicelybeamError(f"the size {wanted.size!r} is not one or two lengths from 20 to 2000 millimetres")
-    if wanted.dpi is not None and not (isinstance(wanted.dpi, Real) and 20 <= wanted.dpi <= 2400):
+    if wanted.dpi is not None and not _between(wanted.dpi, 20, 2400):
         raise CicelybeamError(f"{wanted.dpi!r} is not a number of points to an inch from 20 to 2400")
-    return replace(wanted, size=tuple(size) or None)
+    return replace(wanted, size=size or None)
+
+
+def _between(number: object, least: float, most: float) -> bool:
+    return isinstance(number, Real) and least <= float(number) <= most
 
 
 def figure_of(cut: PlaneCut | LineCut, look: Look) -> Figure:
@@ -120,7 +125,7 @@ def _words(text: str) -> str:
     return ("\u200b" if text.startswith("_") else "") + text.replace("$", r"\$")
 
 
-def _short(numbers: object) -> str:
+def _short(numbers: Iterable[float]) -> str:
     return "(" + ", ".join(f"{round(x, 12) + 0.0:.4g}" for x in numbers) + ")"
 
 
@@ -246,7 +251,11 @@ def _draw_undrawn(sheet: Sheet, cut: PlaneCut, points: np.ndarray, size: float) 
             sheet.axes.add_collection(lines, autolim=False)
             sheet.show(points[np.array(chosen)].reshape(-1, 2))
             if colour == INK:
-                sheet.when_scaled.append(lambda points_to_one, thin=lines: thin.set_linewidth(min(0.6, 0.08 * size * points_to_one)))
+                sheet.when_scaled.append(partial(_thin, lines, size))
+
+
+def _thin(lines: LineCollection, size: float, points_to_one: float) -> None:
+    lines.set_linewidth(min(0.6, 0.08 * size * points_to_one))
 
 
 def view(cut: PlaneCut) -> tuple[Callable[[np.ndarray], np.ndarray], tuple[str, str]]:

@@ -214,7 +214,8 @@ def write_polygons(cut: PlaneCut, path: Path) -> None:
 def _as_meshio(cut: PlaneCut) -> meshio.Mesh:
     lengths = np.diff(cut.ends, prepend=0)
     of_ring = polygon_data(cut)
-    cells, data = [], {name: [] for name in of_ring}
+    cells: list[tuple[str, np.ndarray]] = []
+    data: dict[str, list[np.ndarray]] = {name: [] for name in of_ring}
     for length in np.unique(lengths):
         chosen = np.flatnonzero(lengths == length)
         name = {3: "triangle", 4: "quad"}.get(int(length), "polygon")

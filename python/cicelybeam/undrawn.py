@@ -10,7 +10,7 @@ from .line import LineCut
 from .plane import PlaneCut
 
 Pair = tuple[int, int]
-Point = list[float]
+Point = place.Vector
 Segment = tuple[Point, Point]
 
 
@@ -107,7 +107,7 @@ def _drawn_edges(cut: PlaneCut) -> set[Pair]:
 
 def _segments_of(cut: PlaneCut, cell: int) -> list[Segment]:
     block = cut.mesh.block_of(cell)
-    faces = [cut.mesh.points[face].tolist() for face in block.faces(cell - block.first)]
+    faces = [[tuple(corner) for corner in cut.mesh.points[face].tolist()] for face in block.faces(cell - block.first)]
     return [segment for face in faces for segment in face_segments(face, cut.near, cut.record.tolerance)]
 
 
@@ -139,18 +139,18 @@ def face_segments(corners: list[Point], plane: place.Frame, tol: float) -> list[
 
 
 def _away(point: Point, plane: place.Frame) -> float:
-    return place.dot([x - o for x, o in zip(point, plane.origin)], plane.normal)
+    return place.dot(tuple(x - o for x, o in zip(point, plane.origin)), plane.normal)
 
 
 def _crossing(a: Point, da: float, b: Point, db: float, plane: place.Frame) -> Point:
     t = da / (da - db) if abs(da - db) > np.finfo(float).tiny else 0.5
-    point = [x + t * (y - x) for x, y in zip(a, b)]
+    point = tuple(x + t * (y - x) for x, y in zip(a, b))
     away = _away(point, plane)
-    return [x - away * n for x, n in zip(point, plane.normal)]
+    return tuple(x - away * n for x, n in zip(point, plane.normal))
 
 
 def _dist2(a: Point, b: Point) -> float:
-    step = [x - y for x, y in zip(a, b)]
+    step = tuple(x - y for x, y in zip(a, b))
     return place.dot(step, step)
 
 

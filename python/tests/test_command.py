@@ -3,7 +3,6 @@ import base64
 import csv
 import json
 import subprocess
-import sys
 from pathlib import Path
 
 import meshio

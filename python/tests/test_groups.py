@@ -1,5 +1,4 @@
 """Groups of cells from files of several formats, and areas by them."""
-import meshio
 import numpy as np
 import pytest
 from conftest import box, stack
