@@ -171,6 +171,8 @@ class PlaneRecord:
     def _remarks(self) -> list[str]:
         """What else a reader of the area has to know."""
         found = []
+        if self.missed_by:
+            found.append(f"the plane misses the mesh by {self.missed_by:.6g}")
         if self.lost_cells:
             found.append(f"an area of about {self.lost_area:.3g} is lost in {number(len(self.lost_cells), 'cell')}, "
                          f"{100 * self.lost_share:.3g} % of the whole")

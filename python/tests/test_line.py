@@ -11,7 +11,7 @@ import cicelybeam
 places = st.floats(0.05, 0.95)
 
 
-@given(st.sampled_from(["hexahedron", "wedge", "tetra"]), places, places, st.integers(0, 2))
+@given(st.sampled_from(["hexahedron", "wedge", "tetra", "pyramid"]), places, places, st.integers(0, 2))
 def test_box_along_an_axis(kind, a, b, axis):
     origin, direction = np.insert([a, b], axis, 0.3), np.eye(3)[axis] * 2.5
     record = cicelybeam.cut_line(box(2, kind), origin, direction).record
@@ -19,7 +19,7 @@ def test_box_along_an_axis(kind, a, b, axis):
     assert record.length >= record.covered - 1e-9
 
 
-@given(st.sampled_from(["hexahedron", "wedge", "tetra"]), places, places)
+@given(st.sampled_from(["hexahedron", "wedge", "tetra", "pyramid"]), places, places)
 def test_same_answer_without_leaving_out(kind, a, b):
     mesh = box(2, kind)
     one = cicelybeam.cut_line(mesh, (a, b, 0.3), (b, 0.2, a))

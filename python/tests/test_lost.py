@@ -227,3 +227,4 @@ def test_plane_that_meets_nothing_says_by_how_far(cube, origin, normal, distance
     record = cicelybeam.cut_plane(cube, origin, normal).record
     assert record.missed_by == pytest.approx(distance)
     assert record.warnings and f"misses the nearest corner by {distance:.6g}" in record.warnings[0]
+    assert f"misses the mesh by {distance:.6g}" in record.sentence() and record.reasons == []
