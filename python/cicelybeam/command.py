@@ -20,11 +20,12 @@ from .version import VERSION
 STATUS = """\
 exit status:
   0  every cell that the cut reaches was cut, and no area is lost
-  1  there is no cut: the file, the cell or the plane was refused, and the message says why
+  1  there is no cut or no output: the file, the cell or the plane was refused, and the message says why
   2  the command line is wrong
   3  area is lost: a piece is not drawn, or a cell that the plane passes through lacks an edge; or the area jumps
      at this plane (--allow-undrawn accepts it, --shift looks for a plane next to it)
   4  cells of a type that is not cut may reach the cut (--allow-uncut accepts it)
+  130  interrupted by Ctrl-C; no output is left half written
 """
 
 WHAT = """\
@@ -154,7 +155,7 @@ def _add_picture(command: argparse.ArgumentParser) -> None:
     command.add_argument("--colour", default="type", metavar="BY", help="the picture by type, group, cell, or a cell field")
     command.add_argument("--title", metavar="TEXT", help="above the picture; an empty one for none")
     command.add_argument("--size", type=_size, metavar="W,H", help="of the picture, in millimetres; W alone leaves the height to the section")
-    command.add_argument("--dpi", type=_dpi, metavar="N", help="points to an inch of a .png, 300 by default")
+    command.add_argument("--dpi", type=_dpi, metavar="N", help="dots per inch of a .png, 300 by default")
     command.add_argument("--edges", choices=("on", "off", "auto"), default="auto", help=(
         "the cells' edges in the picture; auto thins them as cells grow in number"))
 

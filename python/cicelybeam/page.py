@@ -16,7 +16,7 @@ from .plane import PlaneCut
 from .provenance import origin_of, proved
 from .undrawn import Finding, findings
 
-MOST_IN_SVG = 4000  # polygons; beyond it the figure is of points, so that a browser stays quick
+MOST_IN_SVG = 4000  # polygons; beyond it the figure is a bitmap, so that a browser stays quick
 
 CSS = """
 body { font: 11pt/1.4 sans-serif; color: #202020; max-width: 190mm; margin: 8mm auto; padding: 0 4mm; }

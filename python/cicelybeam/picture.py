@@ -45,7 +45,7 @@ STYLE = {
 
 @dataclass(frozen=True)
 class Look:
-    """How a picture looks. The size is in millimetres: width and height, or the width alone. The points to an inch are a .png's."""
+    """How a picture looks. The size is in millimetres: width and height, or the width alone. The dots per inch are a .png's."""
 
     colour: str = "type"
     title: str | None = None  # None: what was drawn, in words; an empty one for none
@@ -83,7 +83,7 @@ def look_of(given: dict[str, object]) -> Look:
     if len(size) > 2 or not all(_between(length, 20, 2000) for length in size):
         raise CicelybeamError(f"the size {wanted.size!r} is not one or two lengths from 20 to 2000 millimetres")
     if wanted.dpi is not None and not _between(wanted.dpi, 20, 2400):
-        raise CicelybeamError(f"{wanted.dpi!r} is not a number of points to an inch from 20 to 2400")
+        raise CicelybeamError(f"{wanted.dpi!r} is not a number of dots per inch from 20 to 2400")
     return replace(wanted, size=size or None)
 
 

@@ -199,7 +199,7 @@ def test_many_cells_are_not_black(tmp_path):
     assert len(cut) > 12000 and 150 < 255 * inside.mean() < 225
 
 
-def test_size_and_points_to_an_inch(tmp_path):
+def test_size_and_dots_per_inch(tmp_path):
     cut = cicelybeam.cut_plane(box(2), (0, 0, 0.3), (0, 0, 1))
     cut.draw(tmp_path / "a.png", size=(90, 60), dpi=254)
     assert image.imread(tmp_path / "a.png").shape[:2] == (600, 900)

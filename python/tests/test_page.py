@@ -150,7 +150,7 @@ def test_line_cuts_have_pages_too(whole, tmp_path):
     parsed((tmp_path / "a.html").read_text())
 
 
-def test_many_polygons_are_a_picture_of_points(tmp_path):
+def test_many_polygons_are_a_bitmap(tmp_path):
     cut = cicelybeam.cut_plane(box(30, "tetra"), (0.1, 0.2, 0.5), (0.3, 0.2, 3))
     cut.write(tmp_path / "a.html")
     assert len(cut) > 4000 and parsed((tmp_path / "a.html").read_text()).references[0].startswith("data:image/png;base64,")
