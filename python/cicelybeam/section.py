@@ -51,7 +51,8 @@ class Section:
         near = place.nearest_in_plane(asked.origin, asked.normal, mesh.centre() or asked.origin)
         self.frame, self.near = (replace(given, origin=place.moved(origin, given.normal, asked.shift)) for origin in (asked.origin, near))
         self.sides = place.sides(mesh.points, self.near.origin, self.near.normal, asked.tol)
-        self.finite = np.isfinite(mesh.points).all(axis=1)
+        # of each node, or None where all are: a sum tells quickly, but for one that overflows
+        self.finite = None if np.isfinite(mesh.points.sum()) else np.isfinite(mesh.points).all(axis=1)
         self.cutter = Cutter(mesh, self.near.origin, asked.normal, asked.tol, asked.own)
         self.reached = self._cut(leave_out, progress)
         self.loops: Loops = self.cutter.loops()
@@ -76,7 +77,7 @@ class Section:
         met = self.sides.met(block, kept)
         through = met == ABOVE | BELOW
         edges = through & (listed > 0)
-        odd = ~block.folded(np.logical_and, self.finite, kept) if not self.finite.all() else np.zeros(len(kept), dtype=bool)
+        odd = np.zeros(len(kept), dtype=bool) if self.finite is None else ~block.folded(np.logical_and, self.finite, kept)
         found = {
             "through": kept[through], "above": kept[met == ABOVE], "within": kept[met == 0], "not_finite": kept[odd],
             "no_edge": kept[through & (listed == 0)],
