@@ -16,6 +16,7 @@ from .plane import PlaneCut
 from .provenance import origin_of, proved
 from .undrawn import Finding, findings
 
+MOST_ON_PAPER = 500  # touched cells
 MOST_IN_SVG = 4000  # polygons; beyond it the figure is a bitmap, so that a browser stays quick
 
 CSS = """
@@ -27,9 +28,9 @@ th { font-weight: 600 } td.n, th.n { text-align: right; white-space: nowrap; fon
 blockquote { margin: 2mm 0; padding-left: 4mm; border-left: 1mm solid #6c83c0 }
 figure { margin: 3mm 0; text-align: center } figure svg, figure img { max-width: 100%; max-height: 150mm; height: auto }
 code, pre { font: 9pt/1.35 monospace; overflow-wrap: anywhere; white-space: pre-wrap }
-.status { padding: 2mm 3mm; border: 1px solid #202020 } .status.lost { border-width: 0.8mm }
+.paper { display: none } .status { padding: 2mm 3mm; border: 1px solid #202020 } .status.lost { border-width: 0.8mm }
 @page { size: A4; margin: 14mm }
-@media print { body { max-width: none; margin: 0; padding: 0; font-size: 10pt } .claims { display: none }
+@media print { body { max-width: none; margin: 0; padding: 0; font-size: 10pt } .screen { display: none } .paper { display: block }
   h2 { break-after: avoid } figure, tr, li, blockquote { break-inside: avoid } a { color: inherit } thead { display: table-header-group } }
 """
 
@@ -109,8 +110,14 @@ def _missing(found: list[Finding]) -> str:
 
 
 def _touched(found: list[Finding]) -> str:
+    """They lose nothing; where there are many, paper is spared."""
     touched = [f for f in found if f.touched]
-    return f"<h2>Touched, with edges that are not drawn and bound no area</h2>{_cells(touched)}" if touched else ""
+    if not touched:
+        return ""
+    head = "<h2>Touched, with edges that are not drawn and bound no area</h2>"
+    if len(touched) <= MOST_ON_PAPER:
+        return head + _cells(touched)
+    return f'{head}<p class="paper">{len(touched)} cells, which stand in the page on a screen.</p><div class="screen">{_cells(touched)}</div>'
 
 
 def _cells(found: list[Finding]) -> str:
@@ -153,4 +160,4 @@ def _claims() -> str:
     parts = re.split(r"^#+ (.*)$", text, flags=re.MULTILINE)[1:]
     sections = [f'<h2 id="{slug(heading)}">{escape(heading)}</h2><pre>{escape(body.strip())}</pre>'
                 for heading, body in zip(parts[::2], parts[1::2])]
-    return '<div class="claims"><hr>' + "\n".join(sections) + "</div>"
+    return '<div class="screen"><hr>' + "\n".join(sections) + "</div>"

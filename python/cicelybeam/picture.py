@@ -131,12 +131,17 @@ def _short(numbers: Iterable[float]) -> str:
 
 @dataclass
 class _Rings:
-    """Rings in the picture's coordinates, with the cell of each."""
+    """Rings in the picture's coordinates, with the cell of each.
+
+    Where the plane runs along faces, cells on both sides draw them. Those above the plane come first, so that what is seen
+    is always what lies below.
+    """
 
     points: np.ndarray
     nodes: np.ndarray
     ends: np.ndarray
     cells: np.ndarray
+    above: np.ndarray  # whether a ring's cell lies above the plane and is only touched
     starts: np.ndarray = field(init=False)
 
     def __post_init__(self) -> None:
@@ -197,7 +202,8 @@ def _by_class(sheet: Sheet, mesh: Mesh, rings: _Rings, look: Look) -> list[PathC
     fills = shades(len(names))
     for name, (fill, hatch) in zip(names, fills):
         sheet.handles.append(Patch(facecolor=fill, hatch=hatch, edgecolor=_ink(fill, hatch), linewidth=0.4, label=_words(name)))
-    return [_patch(sheet, rings, np.flatnonzero(index == k), fill, hatch) for k, (fill, hatch) in enumerate(fills)]
+    parts = [np.flatnonzero(index == k) for k in range(len(fills))]
+    return [patch for part, (fill, hatch) in zip(parts, fills) for patch in _patches(sheet, rings, part, fill, hatch)]
 
 
 def _by_value(sheet: Sheet, mesh: Mesh, rings: _Rings, look: Look) -> list[PathCollection]:
@@ -213,14 +219,19 @@ def _by_value(sheet: Sheet, mesh: Mesh, rings: _Rings, look: Look) -> list[PathC
     order = np.argsort(level, kind="stable")
     levels, first = np.unique(level[order], return_index=True)
     parts = np.split(order, first[1:]) if len(levels) else []
-    return [_patch(sheet, rings, part, "#ffffff" if k < 0 else colours(int(k))) for k, part in zip(levels, parts)]
+    return [patch for k, part in zip(levels, parts) for patch in _patches(sheet, rings, part, "#ffffff" if k < 0 else colours(int(k)))]
 
 
-def _patch(sheet: Sheet, rings: _Rings, chosen: np.ndarray, fill: object, hatch: str = "") -> PathCollection:
-    outlines = [rings.outline(chosen[start : start + IN_ONE]) for start in range(0, len(chosen), IN_ONE)]
-    patch = PathCollection(outlines, facecolors=[fill], hatch=hatch, joinstyle="round")
-    sheet.axes.add_collection(patch, autolim=False)
-    return patch
+def _patches(sheet: Sheet, rings: _Rings, chosen: np.ndarray, fill: object, hatch: str = "") -> list[PathCollection]:
+    """These rings in one colour: those of cells above the plane, and over them the others."""
+    patches = []
+    for above in (True, False):
+        part = chosen[rings.above[chosen] == above]
+        outlines = [rings.outline(part[start : start + IN_ONE]) for start in range(0, len(part), IN_ONE)]
+        if outlines:
+            patches.append(PathCollection(outlines, facecolors=[fill], hatch=hatch, joinstyle="round", zorder=1.0 if above else 1.1))
+            sheet.axes.add_collection(patches[-1], autolim=False)
+    return patches
 
 
 def _section(cut: PlaneCut, look: Look) -> Sheet:
@@ -228,7 +239,7 @@ def _section(cut: PlaneCut, look: Look) -> Sheet:
     space = cut.in_space()
     points = project(space) if len(space) else np.zeros((0, 2))
     sheet = Sheet(*labels, equal=True)
-    rings = _Rings(points, cut.nodes, cut.ends, cut.polygon_cell)
+    rings = _Rings(points, cut.nodes, cut.ends, cut.polygon_cell, cut.side > 0)
     _fill(sheet, cut.mesh, rings, look)
     _draw_undrawn(sheet, cut, points, 0.0 if look.edges == "off" else rings.middling_size())
     _mark(sheet, findings(cut), project)
@@ -303,7 +314,8 @@ def _line_in_plane(cut: LineCut, look: Look) -> Sheet:
     blocks = [block for block in cut.mesh.blocks if not isinstance(block, Polyhedra)]
     lengths = np.concatenate([np.full(len(block), block.kind.corners) for block in blocks])
     cells = np.concatenate([block.first + np.arange(len(block)) for block in blocks])
-    _fill(sheet, cut.mesh, _Rings(cut.mesh.points, np.concatenate([b.corners().ravel() for b in blocks]), np.cumsum(lengths), cells), look)
+    corners = np.concatenate([block.corners().ravel() for block in blocks])
+    _fill(sheet, cut.mesh, _Rings(cut.mesh.points, corners, np.cumsum(lengths), cells, np.zeros(len(cells), dtype=bool)), look)
     for colour, width in (("white", 3.0), (INK, 1.4)):  # to be seen on dark cells too
         sheet.axes.add_collection(LineCollection(cut.segments, colors=colour, linewidths=width, zorder=4), autolim=False)
     sheet.handles += sheet.axes.plot(*cut.segments.reshape(-1, 2).T, ".", color=INK, markersize=4, zorder=4,

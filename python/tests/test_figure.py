@@ -5,7 +5,7 @@ import warnings
 import meshio
 import numpy as np
 import pytest
-from conftest import CUBE, box
+from conftest import CUBE, box, stack
 from matplotlib import image
 from matplotlib.colors import to_rgb
 from test_files import OPEN_BRICK, grouped
@@ -166,6 +166,17 @@ def test_holes_stay_empty(tmp_path):
         axes = figure(cut, colour=colour, title="")
         x, y = axes.axes[0].transData.transform((1.5, 1.5)) / axes.dpi * 50
         assert found[len(found) - 1 - int(y), int(x), :3].min() == 1
+
+
+def test_what_lies_below_is_seen(tmp_path):
+    """Bricks on both sides of the plane draw their faces; whichever comes first in the mesh, those below are on top."""
+    for below in (1, 2):
+        mesh = stack(2, 3)
+        mesh.cell_data = {"gmsh:physical": [np.repeat([below, 3 - below], [4, 9])]}
+        patches = figure(cicelybeam.cut_plane(mesh, (0, 0, 0), (0, 0, 1)), colour="group").axes[0].collections
+        top = max(patches, key=lambda patch: patch.get_zorder())
+        assert np.allclose(top.get_facecolor()[0][:3], to_rgb(shades(2)[below - 1][0]))
+        assert sum(len(path.vertices) for path in top.get_paths()) == 4 * 5
 
 
 def test_edges_are_thinned():

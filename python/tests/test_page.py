@@ -138,6 +138,15 @@ def test_touched_cells_are_listed_apart(tmp_path):
     assert "not known: the mesh was not read from a file" in said and "cicelybeam.cut_plane(" in said
 
 
+def test_thousands_of_touched_cells_spare_the_paper(tmp_path):
+    cut = cicelybeam.cut_plane(box(12, "tetra"), (0, 0, 0.5), (0, 0, 1))
+    cut.write(tmp_path / "a.html")
+    text = (tmp_path / "a.html").read_text()
+    parsed(text)
+    assert cut.record.touching_cells > 500 and words(text).count("touched: ") == cut.record.touching_cells
+    assert f'<p class="paper">{cut.record.touching_cells} cells' in text
+
+
 def test_a_mesh_that_has_changed_is_told(whole, tmp_path):
     mesh = cicelybeam.read(whole)
     whole.write_bytes(whole.read_bytes() + b"\n")
