@@ -3,7 +3,7 @@ import meshio
 import numpy as np
 import pytest
 from conftest import CUBE, box
-from hypothesis import given
+from hypothesis import given, settings
 from hypothesis import strategies as st
 
 import cicelybeam
@@ -82,14 +82,20 @@ def test_never_drawn_whole():
     assert record.lost_area == pytest.approx(1) and record.undrawn[0].reason == "area lost"
 
 
-@given(st.integers(2, 3), st.integers(0, 2**32 - 1), st.floats(0.05, 0.3), st.integers(0, 2))
-def test_estimate_of_what_is_lost(n, seed, part, axis):
-    """Bricks with inner nodes moved, cut along the plane where others are: what is drawn and what is lost are the whole."""
-    mesh = box(2 * n)
+@settings(max_examples=60)
+@given(st.sampled_from([("hexahedron", 0.3), ("wedge", 0.15), ("tetra", 0.15)]), st.integers(1, 3), st.integers(0, 2**32 - 1),
+       st.floats(0.05, 1), st.integers(0, 2), st.booleans())
+def test_estimate_of_what_is_lost(kind, n, seed, part, axis, level):
+    """Inner nodes moved at random, some of them within the plane alone: what is drawn and what is lost are the whole, and
+    after a shift all is drawn."""
+    name, most = kind
+    mesh = box(2 * n, name)
     inner = ((mesh.points > 0) & (mesh.points < 1)).all(axis=1)
     rng = np.random.default_rng(seed)
     inner &= rng.random(len(inner)) < 0.5
-    mesh.points[inner] += rng.uniform(-part / n / 2, part / n / 2, (inner.sum(), 3))
+    step = rng.uniform(-1, 1, (inner.sum(), 3)) * part * most / (2 * n)
+    step[rng.random(len(step)) < 0.5 * level, axis] = 0
+    mesh.points[inner] += step
     record = cicelybeam.cut_plane(mesh, (0.5, 0.5, 0.5), np.eye(3)[axis]).record
     assert record.area + record.lost_area == pytest.approx(1, abs=1e-9)
     shifted = cicelybeam.cut_plane(mesh, (0.5, 0.5, 0.5), np.eye(3)[axis], shift=True).record

@@ -101,6 +101,28 @@ def test_gmsh(tutorial, axis):
             assert record.area + record.lost_area == pytest.approx(max(limits), rel=1e-5)
 
 
+BRICKS_UNDER_TETRAHEDRA = """
+Point(1) = {0, 0, 0, 0.3}; Point(2) = {1, 0, 0, 0.3}; Point(3) = {1, 1, 0, 0.3}; Point(4) = {0, 1, 0, 0.3};
+Line(1) = {1, 2}; Line(2) = {2, 3}; Line(3) = {3, 4}; Line(4) = {4, 1};
+Curve Loop(1) = {1, 2, 3, 4}; Plane Surface(1) = {1}; Transfinite Surface {1}; Recombine Surface {1};
+low[] = Extrude {0, 0, 1} { Surface{1}; Layers{4}; Recombine; };
+high[] = Extrude {0, 0, 1} { Surface{low[0]}; };
+"""
+
+
+def test_pyramids_that_gmsh_makes(tmp_path):
+    """Between bricks and tetrahedra: every cell is cut, and the area is that of the block, also along the bricks' top."""
+    if not shutil.which("gmsh"):
+        pytest.skip("gmsh is not installed")
+    (tmp_path / "a.geo").write_text(BRICKS_UNDER_TETRAHEDRA)
+    subprocess.run(["gmsh", "-3", "-format", "msh2", "-o", "a.msh", "a.geo"], cwd=tmp_path, check=True, capture_output=True)
+    mesh = cicelybeam.read(tmp_path / "a.msh")
+    assert {"tetra", "hexahedron", "pyramid"} <= set(mesh.types())
+    for height in (0.25, 0.5, 1.0, 1.01, 1.1, 1.5):
+        record = cicelybeam.cut_plane(mesh, (0.1, 0.2, height), (0, 0, 1)).record
+        assert record.area == pytest.approx(1, rel=1e-11) and record.reasons == []
+
+
 def tetra_volume(a, b, c, d) -> float:
     return float(np.linalg.det(np.array([b - a, c - a, d - a]))) / 6
 
