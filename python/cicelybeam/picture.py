@@ -214,6 +214,8 @@ def _by_value(sheet: Sheet, mesh: Mesh, rings: _Rings, look: Look) -> list[PathC
     colours = matplotlib.colormaps[SCALE]
     level = np.full(len(values), -1)
     level[known] = np.clip(norm(values[known]) * colours.N, 0, colours.N - 1).astype(int)
+    if not known.all():
+        sheet.handles.append(Patch(facecolor="#ffffff", edgecolor=GREY, linewidth=0.4, label="not a finite value"))
     sheet.scale = ScalarMappable(norm, SCALE)
     sheet.scale_label = _words(look.colour)
     order = np.argsort(level, kind="stable")

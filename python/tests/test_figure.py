@@ -141,6 +141,15 @@ def test_groups_are_classes_with_names():
         assert legend_of(found) == ["left side", "right side"] and len(found.axes) == 1
 
 
+def test_values_that_are_not_finite_are_in_the_legend():
+    mesh = box(2)
+    mesh.cell_data = {"stress": [np.array([1.0, np.nan, 3.0, np.inf, 5.0, 6.0, 7.0, 8.0])]}
+    found = figure(cicelybeam.cut_plane(mesh, (0, 0, 0.3), (0, 0, 1)), colour="stress")
+    assert legend_of(found) == [] and len(found.axes) == 2
+    found = figure(cicelybeam.cut_plane(mesh, (0, 0, 0.7), (0, 0, 1)), colour="stress")
+    assert legend_of(found) == ["not a finite value"]
+
+
 def test_what_is_not_drawn_is_in_the_legend():
     points = np.concatenate([CUBE, CUBE + [2, 0, 0]])
     cells = [("polyhedron8", [[np.array(face) for face in OPEN_BRICK]]), ("hexahedron", [list(range(8, 16))])]
