@@ -107,7 +107,8 @@ class PlaneCut(Published):
             return found.drawn(LOOKED_AT if enough == Drawn.AREA else 0), found.net.area
 
         wanted = Wanted(enough, record.area + record.lost_area)
-        record.shift_that_draws_all = nearest_shift(self.mesh, self.near, self.asked.tol, drawn_at, record.shift_most, wanted)
+        with np.errstate(all="ignore"):  # as in the cut itself
+            record.shift_that_draws_all = nearest_shift(self.mesh, self.near, self.asked.tol, drawn_at, record.shift_most, wanted)
         return record.shift_that_draws_all
 
     def __str__(self) -> str:

@@ -204,14 +204,15 @@ def write_polygons(cut: PlaneCut, path: Path) -> None:
             place.write_bytes(vtp(cut, polygon_data(cut), edges, of_edge))
             return
         try:
-            _as_meshio(cut).write(place)
+            _as_meshio(cut, np.int32 if path.suffix.lower() == ".ply" else np.int64).write(place)
         except OSError:
             raise
         except (Exception, SystemExit) as error:
             raise CicelybeamError(f"{path}: meshio cannot write it: {error or type(error).__name__}") from error
 
 
-def _as_meshio(cut: PlaneCut) -> meshio.Mesh:
+def _as_meshio(cut: PlaneCut, whole_number: type) -> meshio.Mesh:
+    """The rings as cells; .ply has whole numbers of 32 bits only."""
     lengths = np.diff(cut.ends, prepend=0)
     of_ring = polygon_data(cut)
     cells: list[tuple[str, np.ndarray]] = []
@@ -220,7 +221,7 @@ def _as_meshio(cut: PlaneCut) -> meshio.Mesh:
         chosen = np.flatnonzero(lengths == length)
         name = {3: "triangle", 4: "quad"}.get(int(length), "polygon")
         starts = cut.ends[chosen] - length
-        cells.append((name, cut.nodes[starts[:, None] + np.arange(length)].astype(np.int64)))
+        cells.append((name, cut.nodes[starts[:, None] + np.arange(length)].astype(whole_number)))
         for key, values in of_ring.items():
             data[key].append(values[chosen])
     return meshio.Mesh(cut.in_space(), cells, cell_data=data, point_data=point_values(cut))

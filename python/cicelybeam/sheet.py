@@ -97,7 +97,7 @@ class Sheet:
         if self.equal:
             span = 1.04 * np.maximum(span, 1e-3 * max(span.max(), abs(low).max() * 1e-9, 1e-300))
         else:
-            span = 1.12 * np.where(span > 0, span, 1.0)
+            span = 1.12 * np.maximum(np.where(span > 0, span, 1.0), 1e-9 * np.maximum(abs(low), abs(high)))
         return middle - span / 2, span
 
     def _is_beside(self, ratio: float, wanted: tuple[float, ...]) -> bool:

@@ -65,6 +65,7 @@ SECTIONS = {
     "touched": lambda: cicelybeam.cut_plane(box(2, "tetra"), (0, 0, 0.5), (0, 0, 1)),
     "empty": lambda: cicelybeam.cut_plane(box(1), (0, 0, 7), (0, 0, 1)),
     "line": lambda: cicelybeam.cut_line(sample.plate(), (0, 0.3, 0.4), (1, 0.2, 0)),
+    "line far away": lambda: cicelybeam.cut_line(meshio.Mesh(box(1).points + [1e7, 0, 0], box(1).cells), (1e7, 1e-9, 0.5), (1, -1, 0)),
     "line in a plane": lambda: cicelybeam.cut_line(meshio.Mesh(CUBE[:4, :2], [("quad", [[0, 1, 2, 3]])]), (0, 0.5), (1, 0.1)),
 }
 LOOKS = [{}, {"colour": "cell"}, {"size": (85,)}, {"size": (120, 90), "title": "a title that is rather long " * 4}]
@@ -74,7 +75,9 @@ LOOKS = [{}, {"colour": "cell"}, {"size": (85,)}, {"size": (120, 90), "title": "
 @pytest.mark.parametrize("name", SECTIONS)
 def test_nothing_is_over_anything_else(name, look):
     """Legend, title, labels and scale stand clear of one another and within the figure."""
-    found = figure(SECTIONS[name](), **look)
+    with warnings.catch_warnings():
+        warnings.simplefilter("error")
+        found = figure(SECTIONS[name](), **look)
     draw = found.canvas.get_renderer()
     parts = [*found.legends, *(text for text in found.texts if text.get_text())]
     boxes = [part.get_window_extent(draw) for part in parts] + [axes.get_tightbbox(draw) for axes in found.axes]
@@ -87,7 +90,7 @@ def test_nothing_is_over_anything_else(name, look):
     if "size" in look:
         assert found.get_size_inches()[0] * 25.4 == pytest.approx(look["size"][0])
     axes = found.axes[0]
-    if name not in ("line", "empty"):  # the same scale along both axes
+    if name not in ("line", "line far away", "empty"):  # the same scale along both axes
         scale = axes.get_window_extent().width / np.ptp(axes.get_xlim()), axes.get_window_extent().height / np.ptp(axes.get_ylim())
         assert scale[0] == pytest.approx(scale[1])
 

@@ -148,9 +148,11 @@ def test_formats_that_cannot_hold_polygons(tmp_path, capsys):
 
 
 @pytest.mark.parametrize("suffix", [s for s in outputs.POLYGONS if s != ".vtp"])
-def test_formats_that_hold_polygons(tmp_path, suffix):
+def test_formats_that_hold_polygons(tmp_path, capsys, suffix):
     cut = cicelybeam.cut_plane(box(2), (0.1, 0.2, 0.3), (1, 2, 3))
     cut.write(tmp_path / f"a{suffix}")
+    said = capsys.readouterr()
+    assert said.out == "" and said.err == ""
     found = meshio.read(tmp_path / f"a{suffix}")
     assert sum(len(block.data) for block in found.cells) == len(cut)
     assert {len(row) for block in found.cells for row in block.data} == set(np.diff(cut.ends, prepend=0).tolist()) >= {3, 4, 5}
