@@ -13,7 +13,8 @@ def coinciding(points: np.ndarray, nodes: np.ndarray, ends: np.ndarray, tol: flo
     """For each ring the first one that it coincides with, or its own number.
 
     Rings coincide if they have the same number of points, each within twice the tolerance of one of the other's. Then their
-    means are about as close, so they are looked for among neighbours in one direction.
+    means are about as close, so they are looked for among neighbours in one direction. Rings that are not wider than some
+    tolerances do not count: neighbours among them are as close.
     """
     first = np.arange(len(ends))
     if len(ends) < 2:
@@ -42,8 +43,15 @@ def _match(points: np.ndarray, nodes: np.ndarray, starts: np.ndarray, lengths: n
         chosen = np.flatnonzero(lengths[pairs[:, 0]] == length)
         a, b = (points[nodes[starts[pairs[chosen, k]][:, None] + np.arange(length)]] for k in (0, 1))
         near = np.linalg.norm(a[:, :, None] - b[:, None], axis=3) <= within
-        found[chosen] = near.any(axis=1).all(axis=1) & near.any(axis=2).all(axis=1)
+        found[chosen] = near.any(axis=1).all(axis=1) & near.any(axis=2).all(axis=1) & _wide(a, 4 * within)
     return found
+
+
+def _wide(rings: np.ndarray, width: float) -> np.ndarray:
+    """For each ring of one length, as rows of corners: whether its area is more than that of a strip of this width."""
+    x, y = (rings - rings[:, :1]).transpose(2, 0, 1)
+    area = 0.5 * (x * np.roll(y, -1, axis=1) - np.roll(x, -1, axis=1) * y).sum(axis=1)
+    return np.abs(area) > width * np.maximum(np.ptp(x, axis=1), np.ptp(y, axis=1))
 
 
 def _root(first: np.ndarray, k: int) -> int:

@@ -146,7 +146,7 @@ def _cut_near(mesh: Mesh, origin: Vector, normal: Vector, tol: float, cells: np.
     for block, part in _by_block(mesh, cells):
         cutter.cut(block, part)
     loops = cutter.loops()
-    rings = simple_rings(loops)
+    rings = simple_rings(loops, tol)
     area, whole = np.zeros(len(cells)), np.ones(len(cells), dtype=bool)
     np.add.at(area, np.searchsorted(cells, rings.cell), rings.area)
     whole[np.searchsorted(cells, loops.cells)] = (loops.counts[:, 2:] == 0).all(axis=1)

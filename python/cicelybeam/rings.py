@@ -10,7 +10,7 @@ from __future__ import annotations
 from dataclasses import dataclass
 
 import numpy as np
-from shapely.geometry import LinearRing, Polygon
+from shapely.geometry import LinearRing, Point, Polygon
 from shapely.ops import polygonize
 
 from .cells import Loops
@@ -35,9 +35,10 @@ class Rings:
     crossing: int  # cells with rings that cross
 
 
-def simple_rings(loops: Loops) -> Rings:
+def simple_rings(loops: Loops, tol: float) -> Rings:
+    """Loops not wider than the tolerance are left as they are: whether such a one crosses itself is a matter of rounding."""
     around = Around(loops.points, loops.nodes, loops.ends)
-    special = _special_cells(loops, around)
+    special = _special_cells(loops, around, tol)
     if not len(special):
         count = len(loops.ends)
         return Rings(loops.points, loops.nodes, loops.ends, loops.cell, around.areas(), np.zeros(count, dtype=bool), np.arange(count), 0, 0)
@@ -45,7 +46,7 @@ def simple_rings(loops: Loops) -> Rings:
     lengths = np.diff(loops.ends, prepend=0)
     rings = Rings(loops.points, loops.nodes[np.repeat(ordinary, lengths)], np.cumsum(lengths[ordinary]), loops.cell[ordinary],
                   np.zeros(0), np.zeros(ordinary.sum(), dtype=bool), np.arange(ordinary.sum()), 0, 0)
-    _add_special(rings, loops, np.flatnonzero(~ordinary))
+    _add_special(rings, loops, np.flatnonzero(~ordinary), tol)
     rings.area = Around(rings.points, rings.nodes, rings.ends).areas()
     return rings
 
@@ -81,13 +82,13 @@ class Around:
         return (self.each(np.minimum, turn) >= -1e-12 * size**2) & (changes <= 2)
 
 
-def _special_cells(loops: Loops, around: Around) -> np.ndarray:
+def _special_cells(loops: Loops, around: Around, tol: float) -> np.ndarray:
     """Cells with several loops, with a point that loops pass through twice, or with a loop that crosses itself."""
     several = loops.cell[1:][loops.cell[1:] == loops.cell[:-1]]
     twice = np.flatnonzero(np.bincount(loops.nodes, minlength=1) > 1)
     through = np.repeat(loops.cell, around.lengths)[np.isin(loops.nodes, twice)] if len(twice) else several[:0]
     bent = np.flatnonzero(~around.convex())
-    crossing = loops.cell[[k for k in bent if not Polygon(loops.points[_row(loops, k)]).is_valid]]
+    crossing = loops.cell[[k for k in bent if _cross([Polygon(loops.points[_row(loops, k)])], tol)]]
     return np.unique(np.concatenate([several, through, crossing]))
 
 
@@ -95,7 +96,7 @@ def _row(loops: Loops, k: int) -> np.ndarray:
     return loops.nodes[loops.ends[k - 1] if k else 0 : loops.ends[k]]
 
 
-def _add_special(rings: Rings, loops: Loops, chosen: np.ndarray) -> None:
+def _add_special(rings: Rings, loops: Loops, chosen: np.ndarray, tol: float) -> None:
     """Adds the rings of these loops, all loops of their cells, and puts all rings in the order of cells."""
     rows: list[Row] = []
     cells: list[int] = []
@@ -108,7 +109,7 @@ def _add_special(rings: Rings, loops: Loops, chosen: np.ndarray) -> None:
             parts = cut_at_repeated_points(_row(loops, k).tolist())
             rings.self_touching += len(parts) > 1
             found += parts
-        found, holes_of, crossed = _even_odd(found, loops.points, new)
+        found, holes_of, crossed = _even_odd(found, loops.points, tol, new)
         rings.crossing += crossed
         outer += [len(rows) + k for k in holes_of]
         rows += found
@@ -153,16 +154,16 @@ def cut_at_repeated_points(row: Row) -> list[Row]:
     return [*rings, walked]
 
 
-def _even_odd(rows: list[Row], points: np.ndarray, new: list[tuple[float, float]]) -> tuple[list[Row], list[int], bool]:
+def _even_odd(rows: list[Row], points: np.ndarray, tol: float, new: list[tuple[float, float]]) -> tuple[list[Row], list[int], bool]:
     """The rings of one cell, outer ones counter-clockwise and holes clockwise; for each the ring that it is a hole of, or
     itself; and whether rings cross, so that they had to be cut up."""
     shapes = [Polygon(points[row]) for row in rows]
-    crossed = _cross(shapes)
+    crossed = _cross(shapes, tol)
     if crossed:
         rows = _cut_at_crossings(rows, points, new)
         known = np.concatenate([points, np.array(new).reshape(-1, 2)])
         shapes = [Polygon(known[row]) for row in rows]
-    inner = [shape.representative_point() for shape in shapes]
+    inner = [shape.representative_point() if shape.is_valid else Point(shape.exterior.coords[0]) for shape in shapes]
     outer = []
     for k, point in enumerate(inner):
         around = [j for j, shape in enumerate(shapes) if (shape.area, j) > (shapes[k].area, k) and shape.contains(point)]
@@ -173,16 +174,22 @@ def _even_odd(rows: list[Row], points: np.ndarray, new: list[tuple[float, float]
     return rows, outer, crossed
 
 
-def _cross(shapes: list[Polygon]) -> bool:
+def _cross(shapes: list[Polygon], tol: float) -> bool:
     """Whether a ring crosses itself, or two rings cross: they share an area that is that of neither."""
-    if not all(shape.is_valid for shape in shapes):
+    if any(not shape.is_valid and _crosses_itself(shape, tol) for shape in shapes):
         return True
-    for k, one in enumerate(shapes):
-        for other in shapes[:k]:
+    wide = [shape for shape in shapes if shape.is_valid]
+    for k, one in enumerate(wide):
+        for other in wide[:k]:
             shared, least = overlap(one, other), min(one.area, other.area)
-            if NEARLY * least < shared < (1 - NEARLY) * least:
+            if max(NEARLY * least, tol * one.length) < shared < (1 - NEARLY) * least - tol * one.length:
                 return True
     return False
+
+
+def _crosses_itself(shape: Polygon, tol: float) -> bool:
+    """Whether the parts around which it runs have together more than its own area, by more than a strip as wide as the tolerance."""
+    return sum(part.area for part in polygonize(union([shape.exterior]))) - shape.area > tol * shape.length
 
 
 def _cut_at_crossings(rows: list[Row], points: np.ndarray, new: list[tuple[float, float]]) -> list[Row]:

@@ -56,7 +56,7 @@ class Section:
         self.cutter = Cutter(mesh, self.near.origin, asked.normal, asked.tol, asked.own)
         self.reached = self._cut(leave_out, progress)
         self.loops: Loops = self.cutter.loops()
-        self.rings: Rings = simple_rings(self.loops)
+        self.rings: Rings = simple_rings(self.loops, self.tol)
 
     def _cut(self, leave_out: bool, progress: Progress | None) -> Reached:
         """Cuts the cells that may have a segment."""

@@ -59,7 +59,7 @@ def square(x: float, y: float, size: float) -> list[tuple[float, float]]:
     ([square(0, 0, 2), square(1, 1, 2)], 6, 1),  # two that cross: the part inside both does not count
 ])
 def test_even_odd(rings, area, holes):
-    found = simple_rings(loops_of(*rings))
+    found = simple_rings(loops_of(*rings), 1e-12)
     assert found.area.sum() == pytest.approx(area)
     if len(rings) < 2 or rings[1] != square(1, 1, 2) or rings[0] != square(0, 0, 2):
         assert found.hole.sum() == holes
@@ -68,6 +68,24 @@ def test_even_odd(rings, area, holes):
     starts = np.concatenate([[0], found.ends[:-1]])
     for first, after in zip(starts, found.ends):
         assert len(set(found.nodes[first:after].tolist())) == after - first >= 3
+
+
+@pytest.mark.parametrize("height,crossing", [(1e-13, 0), (1e-3, 1)])
+def test_crossing_within_the_tolerance_is_rounding(height, crossing):
+    """A bow-tie that is not wider than the tolerance stays as it is."""
+    found = simple_rings(loops_of([(0, 0), (1, 0), (0, height), (1, height)]), 1e-12)
+    assert found.crossing == crossing and len(found.ends) == 1 + crossing
+    assert np.abs(found.area).sum() == pytest.approx(crossing * height / 2, abs=1e-12)
+
+
+def test_narrow_neighbours_do_not_coincide():
+    """Strips as wide as the tolerance, side by side: each is within two tolerances of the next, and they are not one."""
+    from cicelybeam.coincident import coinciding
+
+    strips = [[(0, y), (1, y), (1, y + 1e-12), (0, y + 1e-12)] for y in np.arange(4) * 1e-12]
+    assert coinciding(np.concatenate(strips), np.arange(16), np.arange(1, 5) * 4, 1e-12).tolist() == [0, 1, 2, 3]
+    wide = [[(0, 0), (1, 0), (1, 1), (0, 1)]] * 2
+    assert coinciding(np.concatenate(wide).astype(float), np.arange(8), np.array([4, 8]), 1e-12).tolist() == [0, 0]
 
 
 @given(st.lists(st.integers(0, 6), min_size=3, max_size=12))
