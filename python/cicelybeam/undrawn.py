@@ -89,11 +89,16 @@ def undrawn_edges(cut: PlaneCut) -> list[tuple[int, Pair]]:
             continue
         edges: dict[Pair, None] = {}
         for ends in _segments_of(cut, cell):
-            a, b = sorted(first + int(np.argmin(((space[first:after] - end) ** 2).sum(axis=1))) for end in ends)
+            a, b = sorted(first + _nearest(space[first:after], end) for end in ends)
             if a != b and (a, b) not in drawn:
                 edges[a, b] = None
         found += [(cell, edge) for edge in edges]
     return found
+
+
+def _nearest(points: np.ndarray, point: Point) -> int:
+    with np.errstate(all="ignore"):  # numbers so large that their squares overflow
+        return int(np.argmin(np.linalg.norm(points - point, axis=1)))
 
 
 def _drawn_edges(cut: PlaneCut) -> set[Pair]:

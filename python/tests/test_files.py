@@ -1,12 +1,15 @@
 """Output files: whole or not there, the mesh untouched; and what stands in them."""
 import base64
+import contextlib
 import csv
+import io
 import json
 import os
 import resource
 import signal
 import subprocess
 import time
+import warnings
 from pathlib import Path
 from xml.etree import ElementTree
 
@@ -385,3 +388,33 @@ def test_json_of_a_line(line, tmp_path):
     found = json.loads((tmp_path / "a.json").read_text())
     assert sum(row["length"] for row in found["by_segment"]) == pytest.approx(found["length"])
     assert found["made_by"]["command"].startswith("cicelybeam line ")
+
+
+@given(st.data())
+def test_any_outputs_of_any_cut(tmp_path_factory, data):
+    """Grids moved at random, with a coordinate that is NaN or huge: an answer or a sentence, all files whole, and no words but the command's."""
+    pick = lambda *choices: data.draw(st.sampled_from(choices))  # noqa: E731
+    folder = tmp_path_factory.mktemp("any")
+    mesh = box(pick(1, 2), pick("hexahedron", "wedge", "tetra"), pick((1.0, 1.0, 1.0), (1e-6, 1.0, 1e5)))
+    random = np.random.default_rng(data.draw(st.integers(0, 2**32 - 1)))
+    mesh.points += pick(0, 0.05) * random.uniform(-1, 1, mesh.points.shape) * np.ptp(mesh.points, axis=0)
+    cells = len(mesh.cells[0].data)
+    mesh.cell_data = {"gmsh:physical": [random.integers(0, pick(2, 40), cells)], "stress": [random.choice([1.0, 2.0, np.nan, np.inf, -1e300], cells)]}
+    mesh.point_data = {"T": random.uniform(0, 1, len(mesh.points))}
+    origin = ",".join(repr(float(pick(low, high, (low + high) / 2))) for low, high in zip(mesh.points.min(axis=0), mesh.points.max(axis=0)))
+    mesh.points[0, 0] = pick(mesh.points[0, 0], mesh.points[0, 0], np.nan, 1e300)
+    mesh.write(folder / "mesh.vtu")
+    command = pick("plane", "line")
+    given = [command, folder / "mesh.vtu", "--origin", origin, "--normal" if command == "plane" else "--direction", pick("x", "-z", "1,1,0", "1,2,3")]
+    given += ["--colour", pick("type", "group", "stress", "cell"), "--report", folder / pick("a.html", "a.json", "a.csv")]
+    given += ["--picture", folder / pick("a.svg", "a.png", "a.pdf", "a.eps"), "--dpi", 50, "--size", pick("85", "60,120", "30,30")]
+    if command == "plane":
+        given += ["--vtk", folder / pick("b.vtp", "b.vtu", "b.vtk", "b.ply", "b.obj"), "--table", folder / "t.csv", "--tolerance", pick("0", "1e-9", "0.1")]
+    said = io.StringIO()
+    with contextlib.redirect_stderr(said), contextlib.redirect_stdout(said), warnings.catch_warnings():
+        warnings.simplefilter("error")
+        status = run(*given, "--quiet")
+    assert status in (0, 1, 3) and all(line.startswith("cicelybeam: ") for line in said.getvalue().splitlines())
+    asked = {Path(word).name for word in map(str, given) if str(folder) in word}
+    left = {path.name for path in folder.iterdir()}
+    assert left == asked if status in (0, 3) else left <= asked
