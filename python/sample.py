@@ -1,8 +1,8 @@
 #!/usr/bin/python3
-"""Writes the sample mesh: a plate with a round hole, of bricks, with a ring of wedges and a block of tetrahedra.
+"""Writes the sample mesh: a plate with a round hole, of bricks, with a strip of wedges and a strip of tetrahedra beside it.
 
-The plate is [-2, 2] x [-2, 2] x [0, 1] with a hole of radius 1 (a polygon of 32 sides). Bricks fill it up to y = 2; a strip of
-wedges stands on its right side, and a strip of tetrahedra on its left.
+The plate is [-2, 2] x [-2, 2] x [0, 1] with a hole of radius 1 (a polygon of 32 sides). The wedges stand on its right side, the
+tetrahedra on its left. The three parts are physical groups with names; there is a field of cells and one of nodes.
 """
 from __future__ import annotations
 
@@ -36,7 +36,29 @@ def plate() -> meshio.Mesh:
     cells = [("hexahedron", bricks), ("wedge", wedges), ("tetra", tetrahedra)]
     cells = [(name, np.array(rows, dtype=np.int64)) for name, rows in cells]
     radius = [np.linalg.norm(coords[rows].mean(axis=1)[:, :2], axis=1) for _, rows in cells]
-    return meshio.Mesh(coords, cells, cell_data={"radius": radius})
+    group = [np.full(len(rows), k + 1) for k, (_, rows) in enumerate(cells)]
+    names = {name: np.array([k + 1, 3]) for k, name in enumerate(("plate", "right strip", "left strip"))}
+    return meshio.Mesh(coords, cells, {"temperature": 20 + 5 * coords[:, 0]},
+                       {"radius": radius, "gmsh:physical": group, "gmsh:geometrical": group}, names)
+
+
+def broken() -> meshio.Mesh:
+    """The same, where five bricks that the plane of ./demo passes through are polyhedra that lack a face."""
+    mesh = plate()
+    bricks = mesh.cells[0].data
+    chosen = [25, 134, 178, 337, 354]
+    faces = ((0, 3, 2, 1), (4, 5, 6, 7), (0, 1, 5, 4), (2, 3, 7, 6), (1, 2, 6, 5))
+    open_bricks = [[bricks[k][list(face)] for face in faces] for k in chosen]
+    kept = np.setdiff1d(np.arange(len(bricks)), chosen)
+    return meshio.Mesh(mesh.points, [("hexahedron", bricks[kept]), *mesh.cells[1:], ("polyhedron8", open_bricks)])
+
+
+def write(mesh: meshio.Mesh, path: Path) -> None:
+    """By the suffix. In gmsh's format meshio cannot read back fields of cells of several types, so the radius is left out there."""
+    if path.suffix == ".msh":
+        tags = {name: parts for name, parts in mesh.cell_data.items() if name.startswith("gmsh:")}
+        mesh = meshio.Mesh(mesh.points, mesh.cells, mesh.point_data, tags, mesh.field_data)
+    mesh.write(path, file_format="gmsh22" if path.suffix == ".msh" else None)
 
 
 def _ring(node, layer: int) -> list[list[int]]:
@@ -69,7 +91,7 @@ def _strip(node, left: float, right: float) -> list[list[int]]:
 
 
 if __name__ == "__main__":
-    path = Path(sys.argv[1] if len(sys.argv) > 1 else "plate.vtu")
+    path = Path(sys.argv[1] if len(sys.argv) > 1 else "plate.msh")
     mesh = plate()
-    mesh.write(path)
+    write(mesh, path)
     print(f"{path}: {len(mesh.points)} nodes, " + ", ".join(f"{len(b.data)} {b.type}" for b in mesh.cells))

@@ -15,10 +15,14 @@ class Growing:
     def lend(self, needed: int) -> tuple[int, int]:
         """The address and number of the free elements, at least as many as needed."""
         if self.array.size - self.used < needed:
-            larger = np.empty(2 * self.array.size + needed, dtype=self.array.dtype)
-            larger[: self.used] = self.array[: self.used]
-            self.array, self.base = larger, larger.ctypes.data
+            self.grow(needed)
         return self.base + self.used * self.array.itemsize, self.array.size - self.used
+
+    def grow(self, more: int = 0) -> None:
+        """Twice the room, and more."""
+        larger = np.empty(2 * self.array.size + more, dtype=self.array.dtype)
+        larger[: self.used] = self.array[: self.used]
+        self.array, self.base = larger, larger.ctypes.data
 
     def written(self) -> np.ndarray:
         return self.array[: self.used]

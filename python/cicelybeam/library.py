@@ -1,4 +1,4 @@
-"""The C functions of libcicelybeam by ctypes, as include/cicelybeam.h declares them.
+"""The C functions of libcicelybeam by ctypes, as include/cicelybeam.h declares them, and the loop over cells of python/loop.c.
 
 Pointers are handed over as addresses of numpy arrays, so nothing is copied. The caller keeps the arrays alive.
 """
@@ -13,7 +13,6 @@ import numpy as np
 
 from .refusal import CicelybeamError, Refused
 
-FACE_END = 2**64 - 1
 MOST_ENTRIES = 256
 
 
@@ -24,6 +23,9 @@ class Section(ctypes.Structure):
         (name, c_uint32)
         for name in ("refusal", "points", "nodes", "loops", "listed", "in_loops", "flat", "open")
     ]
+
+
+SECTION = np.dtype([(name, np.uint32) for name, _ in Section._fields_])  # the same, for many at once
 
 
 class Line(ctypes.Structure):
@@ -75,6 +77,8 @@ def _declared(lib: ctypes.CDLL) -> ctypes.CDLL:
         function = getattr(lib, "cicelybeam_" + name)
         function.argtypes = lent
         function.restype = Tolerance
+    lib.cells_by_plane.argtypes = [c_uint8, c_void_p, *lent, *lent, c_void_p, c_void_p, c_double, *lent, *lent, *lent, c_void_p]
+    lib.cells_by_plane.restype = c_size_t
     lib.cicelybeam_sqrt.argtypes = [c_double]
     lib.cicelybeam_sqrt.restype = c_double
     return lib

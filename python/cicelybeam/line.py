@@ -11,9 +11,10 @@ from . import place
 from .buffers import Growing
 from .library import MOST_ENTRIES, floats, library, slice_tolerance
 from .mesh import Mesh, of_meshio
-from .place import Sides, Vector
+from .place import ABOVE, BELOW, Sides, Vector
 from .plane import PlaneCut, cut_plane
-from .record import below_own, counted, extent, some, vector
+from .publish import Published
+from .record import below_own, counted, extent, number, some, vector, were
 from .refusal import MeshError, Refused
 from .version import VERSION
 
@@ -43,8 +44,9 @@ class LineRecord:
     length: float  # of all segments together
     covered: float  # of the part of the line that they cover
     stretches: list[list[float]]  # the parts of the line that they cover without a gap, by distance from the origin
-    undrawn: list[int]  # cells that the line may reach whose section has a piece that is not drawn
-    touching: list[int]  # of these, cells that the plane only touches, along one edge
+    straightened: int  # cells with mid-side nodes that have a segment, cut as straight between their corners
+    undrawn: list[int]  # cells that the line may reach whose section lacks a piece with an area
+    touching: list[int]  # cells that the line may reach and that the plane only touches
     without_segment: list[int]  # cells that the line passes through and that have no segment
     dropped: list[str]  # what meshio says of cells that it left out while reading
     warnings: list[str] = field(default_factory=list)
@@ -55,32 +57,46 @@ class LineRecord:
         return not self.undrawn and not self.without_segment
 
     @property
-    def only_touching(self) -> bool:
-        return not self.without_segment and set(self.undrawn) <= set(self.touching)
-
-    @property
     def all_cut(self) -> bool:
         return not any(self.not_cut_reached.values()) and not self.dropped
 
+    @property
+    def reasons(self) -> list[tuple[int, str]]:
+        """Every reason for an exit status other than 0, with the status."""
+        found = []
+        if self.undrawn:
+            found.append((3, f"{number(len(self.undrawn), 'cell')} that the line may reach and whose section is not whole{some(self.undrawn)}"))
+        if self.without_segment:
+            found.append((3, f"{number(len(self.without_segment), 'cell')} that the line passes through, without a segment{some(self.without_segment)}"))
+        if any(self.not_cut_reached.values()):
+            found.append((4, f"the line may meet cells of types that are not cut: {counted(self.not_cut_reached)}"))
+        found += [(4, f"meshio left cells out while reading: {remark}") for remark in self.dropped]
+        return found
+
+    advice = ""  # for a line no shift is looked for
+
     def sentence(self) -> str:
         """The summary, for a methods section."""
+        cells = sum(self.cells_by_type.values())
         start = (
-            f"The mesh's {sum(self.cells_by_type.values())} cells were cut with Cicelybeam {self.version} by the line through "
+            f"The mesh's {number(cells, 'cell')} {were(cells)} cut with Cicelybeam {self.version} by the line through "
             f"{vector(self.origin)} with direction {vector(self.direction)} and tolerance {self.tolerance:.3g}: "
-            f"{self.with_segments} cells have {self.segments} segments of it, of length {self.length:.12g} together, "
-            f"which cover a length of {self.covered:.12g} of the line"
+            f"{number(self.with_segments, 'cell')} {'has' if self.with_segments == 1 else 'have'} {number(self.segments, 'segment')} of it, "
+            f"of length {self.length:.12g} together, covering a length of {self.covered:.12g} of the line"
         )
-        missing = set(self.undrawn) - set(self.touching)
-        if missing or self.without_segment:
-            start += (f"; {len(missing)} cells that the line may reach have a section that is not whole, and "
-                      f"{len(self.without_segment)} that it passes through have no segment")
+        if self.straightened:
+            start += f"; {number(self.straightened, 'cell')} with mid-side nodes {were(self.straightened)} cut as straight between corners"
+        if self.undrawn or self.without_segment:
+            start += (f"; {number(len(self.undrawn), 'cell')} that the line may reach with a section that is not whole, and "
+                      f"{len(self.without_segment)} that it passes through without a segment")
         if any(self.not_cut_reached.values()):
-            start += f"; {counted(self.not_cut_reached)} are of types that are not cut"
+            start += f"; not cut: {counted(self.not_cut_reached)}"
         return start + "."
 
     def as_dict(self) -> dict:
         """The record as plain numbers, lists and words."""
-        return {**asdict(self), "all_drawn": self.all_drawn, "all_cut": self.all_cut, "summary": self.sentence()}
+        return {**asdict(self), "all_drawn": self.all_drawn, "all_cut": self.all_cut,
+                "reasons": [list(reason) for reason in self.reasons], "summary": self.sentence()}
 
     def __str__(self) -> str:
         stretches = ", ".join(f"{a:.6g} to {b:.6g}" for a, b in self.stretches[:8]) + (", ..." if len(self.stretches) > 8 else "")
@@ -91,18 +107,18 @@ class LineRecord:
             ("not cut", counted(self.not_cut)),
             ("line", f"through {vector(self.origin)}, direction {vector(self.direction)}"),
             ("tolerance", f"{self.tolerance:.6g} (the mesh's own: {self.mesh_tolerance:.6g})"),
-            ("segments", f"{self.segments} in {self.with_segments} cells"),
+            ("segments", f"{self.segments} in {number(self.with_segments, 'cell')}"),
             ("length", f"{self.length:.12g}, covering {self.covered:.12g} of the line"),
             ("stretches", f"{len(self.stretches)}{': ' if stretches else ''}{stretches}"),
-            ("not whole", f"{len(self.undrawn)} cells that the line may reach{some(self.undrawn)}"),
-            ("no segment", f"{len(self.without_segment)} cells passed through{some(self.without_segment)}"),
+            ("not whole", f"{number(len(self.undrawn), 'cell')} that the line may reach{some(self.undrawn)}"),
+            ("no segment", f"{number(len(self.without_segment), 'cell')} passed through{some(self.without_segment)}"),
             *(("WARNING", warning) for warning in self.warnings),
         ]
         return "\n".join([*(f"{name:<18}{value}" for name, value in lines), "", self.sentence()])
 
 
-@dataclass
-class LineCut:
+@dataclass(repr=False)
+class LineCut(Published):
     """The segments of a cut, first end then second, with the cell of each."""
 
     mesh: Mesh
@@ -116,10 +132,14 @@ class LineCut:
     def __len__(self) -> int:
         return len(self.segments)
 
+    def __repr__(self) -> str:
+        return f"<LineCut of {self.mesh.source}: {number(len(self), 'segment')}, length covered {self.record.covered:.12g}>"
+
     def __str__(self) -> str:
         return str(self.record)
 
 
+@np.errstate(all="ignore")  # a cell with numbers that overflow is told of; numpy need not say so as well
 def cut_line(
     mesh: Mesh | meshio.Mesh,
     origin: object,
@@ -139,7 +159,7 @@ def cut_line(
     found = mesh if isinstance(mesh, Mesh) else of_meshio(mesh)
     if not any(map(len, found.blocks)):
         raise MeshError(f"{found.source}: no cell is of a type that is cut; it has {counted(found.not_cut(), 'no cells')}")
-    start, along = place.vector(origin, found.dimension), place.vector(direction, found.dimension)
+    start, along = place.vector(origin, found.dimension, "origin"), place.vector(direction, found.dimension, "direction")
     own = slice_tolerance(found.points)
     tol = place.chosen_tolerance(tolerance, own, found.source)
     if found.dimension == 3:
@@ -147,12 +167,13 @@ def cut_line(
         call, room, normal = library().cicelybeam_line_in_space, 14, frame.normal
     else:
         call, room, normal = library().cicelybeam_plane_cell_by_direction, 6, place.normal_of_line(along)
-    sides = place.sides(found.points, start, normal, tol)
+    near = place.nearest_on_line(start, along, found.centre() or start)
+    sides = place.sides(found.points, near, normal, tol)
     kept = [np.flatnonzero(sides.reached(block)) if leave_out else np.arange(len(block)) for block in found.blocks]
-    segments, owner = _segments(found, kept, call, room, (start, along, tol), progress)
+    segments, owner = _segments(found, kept, call, room, (near, along, tol), progress)
     if found.dimension == 3:
-        section = cut_plane(found, start, frame.normal, tol, leave_out=leave_out)
-        lacking = _lacking_in_space(section, place.sides(found.points, start, frame.v, tol), frame.v, owner, tol)
+        section = cut_plane(found, near, frame.normal, tol, leave_out=leave_out)
+        lacking = _lacking_in_space(section, place.sides(found.points, near, frame.v, tol), frame.v, owner, tol)
     else:
         lacking = [], [], _lacking_in_plane(found, sides, owner)
     lengths = np.linalg.norm(segments[:, 1] - segments[:, 0], axis=1)
@@ -171,9 +192,11 @@ def _segments(
     numbers, owner = Growing(np.float64, 1 << 14), []
     done, total = 0, sum(map(len, kept))
     for block, cells in zip(mesh.blocks, kept):
-        for index in cells.tolist():
-            address, length = block.entry(index)
-            s = call(block.kind.number, address, length, *cut, *numbers.lend(room * min(4 * length, MOST_ENTRIES)))
+        conn, starts = block.handed(cells)
+        base = conn.ctypes.data
+        for index, first, after in zip(cells.tolist(), starts.tolist(), starts[1:].tolist()):
+            length = after - first
+            s = call(block.kind.number, base + 8 * first, length, *cut, *numbers.lend(room * min(4 * length, MOST_ENTRIES)))
             if s.refusal:
                 raise Refused(s.refusal, f"{mesh.source}: {mesh.name(block.first + index)}")
             numbers.used += 2 * mesh.dimension * s.segments
@@ -187,8 +210,8 @@ def _segments(
 def _lacking_in_space(
     section: PlaneCut, beside: Sides, across: Vector, owner: np.ndarray, tol: float
 ) -> tuple[list[int], list[int], list[int]]:
-    """Of the cells that the line may reach: those whose section is not whole, those of them that the plane only touches,
-    and those without a segment though a polygon has corners on both sides of the line.
+    """Of the cells that the line may reach: those whose section is not whole, those that the plane only touches, and
+    those without a segment though a polygon has corners on both sides of the line.
 
     The line cut's plane and this section's have the same normal up to rounding. `across` is in the plane and
     perpendicular to the line; `beside` are the sides of the plane that holds the line and has this normal.
@@ -200,18 +223,18 @@ def _lacking_in_space(
     undrawn = {cell.cell for cell in record.undrawn}.union(
         record.crossed_without_edge, record.crossed_face_without_segment, record.within_tolerance, record.not_finite)
     touching = {cell.cell for cell in record.undrawn if cell.touching}
-    away = place.distances(section.frame.in_space(section.points), section.frame.origin, across)[section.nodes]
+    away = place.distances(section.in_space(), section.frame.origin, across)[section.nodes]
     crossed = np.zeros(len(section), dtype=bool)
     if len(section):
         starts = np.concatenate([[0], section.ends[:-1]])
         crossed = (np.maximum.reduceat(away, starts) > tol) & (np.minimum.reduceat(away, starts) < -tol)
     without = np.setdiff1d(section.polygon_cell[crossed], owner)
-    return sorted(c for c in undrawn if near[c]), sorted(c for c in touching if near[c]), without.tolist()
+    return sorted(c for c in undrawn - touching if near[c]), sorted(c for c in touching if near[c]), without.tolist()
 
 
 def _lacking_in_plane(mesh: Mesh, sides: Sides, owner: np.ndarray) -> list[int]:
     """Cells without a segment that have corners on both sides of the line, or all corners within the tolerance of it."""
-    met = [np.flatnonzero(sides.crossed(block) | sides.within_tolerance(block)) + block.first for block in mesh.blocks]
+    met = [np.flatnonzero(np.isin(sides.met(block), (0, ABOVE | BELOW))) + block.first for block in mesh.blocks]
     return np.setdiff1d(np.concatenate(met), owner).tolist()
 
 
@@ -223,30 +246,38 @@ def _record(
     for name, dimension, count, _ in mesh.others:
         if dimension == mesh.dimension:
             reached[name] = reached.get(name, 0) + count
-    covered, stretches = _covered(segments, origin, direction, 2 * max(tol, own))
+    along = place.unit(direction)
+    near = place.nearest_on_line(origin, direction, mesh.centre() or origin)
+    covered, stretches = _covered(segments, near, along, 2 * (max(tol, own) if own < np.inf else tol))
+    offset = place.dot(tuple(a - b for a, b in zip(near, origin)), along)  # from the origin given
+    stretches = [[a + offset, b + offset] for a, b in stretches]
     record = LineRecord(
         VERSION, mesh.source, list(origin), list(direction), tol, own, mesh.extent, mesh.total, mesh.types(), mesh.not_cut(), reached,
-        len(np.unique(owner)), len(segments), float(lengths.sum()), covered, stretches, *lacking, mesh.dropped,
+        len(np.unique(owner)), len(segments), float(lengths.sum()), covered, stretches, _curved(mesh, np.unique(owner)), *lacking, mesh.dropped,
     )
     record.warnings = [f"meshio says: {remark}" for remark in mesh.remarks]
     if not len(segments):
         record.warnings.append(f"the line has no segment in any cell; the mesh extends over {extent(record.extent)}")
     if not tol >= own:
         record.warnings.append(below_own(tol, own, "line"))
-    if not record.all_drawn and not record.only_touching:
+    if not record.all_drawn:
         record.warnings.append(f"pieces of the line may be missing in {len({*record.undrawn, *record.without_segment})} cells")
     if any(reached.values()):
         record.warnings.append(f"the line may meet cells of types that are not cut: {counted(reached)}")
     return record
 
 
-def _covered(segments: np.ndarray, origin: Vector, direction: Vector, gap: float) -> tuple[float, list[list[float]]]:
-    """The length of the part of the line that the segments cover together, and its stretches: what is no more than a
-    gap apart is one."""
-    if not len(segments):
+def _curved(mesh: Mesh, cells: np.ndarray) -> int:
+    return sum(int(((cells >= block.first) & (cells < block.first + len(block))).sum()) for block in mesh.blocks if block.kind.curved)
+
+
+def _covered(segments: np.ndarray, near: Vector, along: Vector, gap: float) -> tuple[float, list[list[float]]]:
+    """The length of the part of the line that the segments cover together, and its stretches, from the point `near`: what is
+    no more than a gap apart is one. Segments that are not finite are left out."""
+    ends = np.sort((segments - np.array(near)) @ np.array(along), axis=1)
+    ends = ends[np.isfinite(ends).all(axis=1)]
+    if not len(ends):
         return 0.0, []
-    along = np.array(place.unit(direction))
-    ends = np.sort((segments - np.array(origin)) @ along, axis=1)
     ends = ends[np.argsort(ends[:, 0])]
     reach = np.maximum.accumulate(ends[:, 1])
     before = np.concatenate([[-np.inf], reach[:-1]])

@@ -3,6 +3,7 @@ from __future__ import annotations
 
 import contextlib
 import io
+import os
 from collections import Counter
 from dataclasses import dataclass, field
 from pathlib import Path
@@ -12,13 +13,29 @@ import meshio._mesh
 import numpy as np
 
 from .celltypes import IN_PLANE, IN_SPACE, POLYGON, POLYHEDRON, CellType, dimension
-from .library import FACE_END, floats
+from .groups import find_groups
+from .library import floats
 from .refusal import MeshError, Refused
 
-# Types that meshio 5.0.0 names and whose dimension its table lacks, so that it fails on files that have them.
-for _name, _dimension in {"wedge12": 3, "wedge15": 3, "hexahedron24": 3, "penta_prism": 3, "hexa_prism": 3,
-                          "pyramid13": 3, "triangle7": 2, "quad6": 2, "pixel": 2}.items():
-    getattr(meshio._mesh, "topological_dimension", {}).setdefault(_name, _dimension)
+# meshio 5.0.0 names types whose dimension its table lacks, so that it fails on files that have them.
+for _name in (*IN_SPACE, *IN_PLANE, "quad6"):
+    getattr(meshio._mesh, "topological_dimension", {}).setdefault(_name, dimension(_name))
+
+
+CHUNK = 1 << 18  # cells looked at in one go, so that what is worked out of them stays small
+
+
+def _folded(fold: np.ufunc, bits: np.ndarray) -> np.ndarray:
+    """The columns of rows of bytes folded into one."""
+    if bits.shape[1] in (4, 8) and bits.dtype == np.uint8 and fold in (np.bitwise_and, np.bitwise_or):
+        rows = bits.view(f"u{bits.shape[1]}").ravel()  # a row is one number, whose halves are folded
+        for half in (32, 16, 8)[1 if bits.shape[1] == 4 else 0 :]:
+            rows = fold(rows, rows >> np.array(half, rows.dtype))
+        return rows.astype(np.uint8)
+    found = bits[:, 0].copy()
+    for k in range(1, bits.shape[1]):
+        fold(found, bits[:, k], out=found)
+    return found
 
 
 @dataclass
@@ -29,31 +46,35 @@ class Block:
     first: int
     kind: CellType
     nodes: np.ndarray  # one row a cell, as 64-bit whole numbers
-    base: int = field(init=False)
-
-    def __post_init__(self) -> None:
-        self.base = self.nodes.ctypes.data
 
     def __len__(self) -> int:
         return len(self.nodes)
 
     def corners(self, cells: np.ndarray | slice = slice(None)) -> np.ndarray:
-        return self.nodes[cells, : self.kind.corners]
+        return self.nodes[cells][..., : self.kind.corners]
 
-    def every(self, of_node: np.ndarray) -> np.ndarray:
-        """For each cell: whether this holds of all of its corners."""
-        found = of_node[self.nodes[:, 0]]
-        for k in range(1, self.kind.corners):
-            found = found & of_node[self.nodes[:, k]]
+    def all_corners(self) -> np.ndarray:
+        return self.corners().ravel()
+
+    def folded(self, fold: np.ufunc, of_node: np.ndarray, cells: np.ndarray | slice = slice(None)) -> np.ndarray:
+        """For each cell: the bits of its corners, by bitwise and, or by bitwise or."""
+        corners = self.corners(cells)
+        found = np.empty(len(corners), dtype=of_node.dtype)
+        for start in range(0, len(corners), CHUNK):
+            bits = of_node.take(corners[start : start + CHUNK])
+            found[start : start + CHUNK] = _folded(fold, bits)
         return found
 
-    def some(self, of_node: np.ndarray) -> np.ndarray:
-        """For each cell: whether this holds of one of its corners."""
-        return ~self.every(~of_node)
-
-    def entry(self, index: int) -> tuple[int, int]:
-        """The address and number of the nodes of a cell."""
-        return self.base + index * self.nodes.strides[0], self.kind.nodes
+    def handed(self, cells: np.ndarray) -> tuple[np.ndarray, np.ndarray]:
+        """What the library is handed for these cells: the entries of cell after cell, and where each starts, with the end."""
+        if self.kind.number == POLYHEDRON:
+            ended = [(*face, -1) for face in self.kind.faces]
+            places = np.array([k for face in ended for k in face][:-1])
+            rows = self.nodes[np.asarray(cells)[:, None], places]
+            rows[:, places < 0] = -1  # FACE_END, as the bits of a 64-bit whole number
+        else:
+            rows = self.nodes[cells][:, : self.kind.nodes]
+        return rows.ravel(), np.arange(len(rows) + 1) * rows.shape[1]
 
     def faces(self, index: int) -> list[np.ndarray]:
         row = self.nodes[index]
@@ -70,17 +91,17 @@ class Polyhedra:
     kind: CellType = CellType(POLYHEDRON, 0, 0)
     entries: list[np.ndarray] = field(init=False)
     flat: np.ndarray = field(init=False)  # the corners of cell after cell
-    ends: np.ndarray = field(init=False)  # the number of corners up to and with each cell
+    starts: np.ndarray = field(init=False)  # where those of each cell start, with the end
 
     def __post_init__(self) -> None:
-        end = np.array([FACE_END], dtype=np.uint64)
+        end = np.array([-1], dtype=np.int64)  # FACE_END, as the bits of a 64-bit whole number
         self.entries = []
         for faces in self.cells:
-            parts = [part for face in faces for part in (np.asarray(face).astype(np.uint64), end)]
-            self.entries.append(np.concatenate(parts[:-1]) if parts else np.empty(0, np.uint64))
+            parts = [part for face in faces for part in (np.asarray(face, dtype=np.int64), end)]
+            self.entries.append(np.concatenate(parts[:-1]) if parts else np.empty(0, np.int64))
         corners = [self.corners(k) for k in range(len(self))]
-        self.flat = np.concatenate(corners) if corners else np.empty(0, np.int64)
-        self.ends = np.cumsum([len(c) for c in corners], dtype=np.int64)
+        self.flat = np.concatenate([*corners, np.empty(0, np.int64)])
+        self.starts = np.cumsum([0, *map(len, corners)], dtype=np.int64)
 
     def __len__(self) -> int:
         return len(self.cells)
@@ -89,25 +110,27 @@ class Polyhedra:
         kept = self.faces(index)
         return np.concatenate(kept) if kept else np.empty(0, np.int64)
 
-    def every(self, of_node: np.ndarray) -> np.ndarray:
-        """As for a block; it holds of a cell without corners."""
-        missing = np.concatenate([[0], np.cumsum(~of_node[self.flat])])
-        starts = np.concatenate([[0], self.ends[:-1]])
-        return missing[self.ends] == missing[starts]
+    def all_corners(self) -> np.ndarray:
+        return self.flat
 
-    def some(self, of_node: np.ndarray) -> np.ndarray:
-        return ~self.every(~of_node)
+    def folded(self, fold: np.ufunc, of_node: np.ndarray, cells: np.ndarray | slice = slice(None)) -> np.ndarray:
+        """As for a block; of a cell without corners, all bits by and, none by or."""
+        found = np.full(len(self), fold.identity).astype(of_node.dtype)
+        some = np.diff(self.starts) > 0
+        if some.any():
+            found[some] = fold.reduceat(of_node[self.flat], self.starts[:-1][some])
+        return found[cells]
 
-    def entry(self, index: int) -> tuple[int, int]:
-        found = self.entries[index]
-        return found.ctypes.data, found.size
+    def handed(self, cells: np.ndarray) -> tuple[np.ndarray, np.ndarray]:
+        chosen = [self.entries[k] for k in cells]
+        return np.concatenate([*chosen, np.empty(0, np.int64)]), np.cumsum([0, *map(len, chosen)])
 
     def faces(self, index: int) -> list[np.ndarray]:
         """The faces that are kept: those of three nodes or more."""
         return [np.asarray(face, dtype=np.int64) for face in self.cells[index] if len(face) >= 3]
 
 
-@dataclass
+@dataclass(repr=False)
 class Mesh:
     """Coordinates in rows, the blocks that are cut, and what is not.
 
@@ -119,7 +142,15 @@ class Mesh:
     blocks: list[Block | Polyhedra]
     others: list[tuple[str, int, int, np.ndarray | None]]  # type, dimension, number of cells, nodes
     remarks: list[str] = field(default_factory=list)
-    fields: dict[str, np.ndarray] = field(default_factory=dict)  # of all cells, one number each
+    fields: dict[str, np.ndarray] = field(default_factory=dict)  # of all cells, one number each or a row of numbers
+    point_fields: dict[str, np.ndarray] = field(default_factory=dict)  # of all nodes, likewise
+    group: np.ndarray | None = None  # the number of each cell's group, where the file has groups
+    groups: dict[int, str] = field(default_factory=dict)  # the names of groups, by number
+    other_first: list[int] = field(default_factory=list)  # the number of the first cell of each of `others`
+    stamp: tuple[int, int] | None = None  # time and size of the file when it was read
+
+    def __repr__(self) -> str:
+        return f"<Mesh of {self.source}: {len(self.points)} nodes, {self.total} cells>"
 
     @property
     def dimension(self) -> int:
@@ -128,8 +159,17 @@ class Mesh:
     @property
     def extent(self) -> list[list[float]]:
         """The least and the greatest of each coordinate of its nodes, NaN left out."""
-        known = self.points[~np.isnan(self.points).any(axis=1)]
-        return [known.min(axis=0).tolist(), known.max(axis=0).tolist()] if len(known) else []
+        known = self.points
+        if len(known) and np.isnan(known.sum()):
+            known = known[~np.isnan(known).any(axis=1)]
+        columns = [known[:, k] for k in range(self.dimension)]
+        return [[float(c.min()) for c in columns], [float(c.max()) for c in columns]] if len(known) else []
+
+    def centre(self) -> tuple[float, ...] | None:
+        """A place amid the nodes: the median of each coordinate, of a thousand nodes at most, so that a few far away do not matter."""
+        known = self.points[:: 1 + len(self.points) // 1000]
+        known = known[np.isfinite(known).all(axis=1)]
+        return tuple(np.median(known, axis=0).tolist()) if len(known) else None
 
     @property
     def total(self) -> int:
@@ -163,10 +203,18 @@ class Mesh:
         block = self.block_of(cell)
         return f"cell {cell} ({block.name}, number {cell - block.first} of its block)"
 
+    def corners(self, cell: int) -> np.ndarray:
+        """The nodes that are corners of a cell that is cut."""
+        block = self.block_of(cell)
+        return block.corners(cell - block.first)
+
     def middle(self, cell: int) -> np.ndarray:
         """The mean of the corners of a cell that is cut."""
-        block = self.block_of(cell)
-        return self.points[block.corners(cell - block.first)].mean(axis=0)
+        return self.points[self.corners(cell)].mean(axis=0)
+
+    def group_of(self, cells: np.ndarray) -> np.ndarray | None:
+        """The number of the group of each of these cells, or None where the file has no groups; `groups` has the names."""
+        return None if self.group is None else self.group[cells]
 
     def type_of(self, cells: np.ndarray) -> np.ndarray:
         """meshio's type of each of these cells."""
@@ -182,6 +230,7 @@ def read(path: str | Path) -> Mesh:
     try:
         with contextlib.redirect_stderr(said), contextlib.redirect_stdout(said):
             found = meshio.read(path)
+        seen = os.stat(path)
     except SystemExit as error:  # meshio prints why, then that it could not read the file, and exits
         told = " ".join(_words(said).split("Error: Couldn't")[0].split())
         raise MeshError(f"{path}: meshio cannot read it" + (f": {told}" if told else "")) from error
@@ -191,6 +240,7 @@ def read(path: str | Path) -> Mesh:
             told += " Save it from gmsh as version 2 (gmsh -format msh2), or without elements of no physical group (Mesh.SaveAll = 0)."
         raise MeshError(f"{path}: meshio cannot read it: {told}") from error
     mesh = of_meshio(found, str(path))
+    mesh.stamp = (seen.st_mtime_ns, seen.st_size)
     mesh.remarks = [" ".join(part.split()) for part in _words(said).split("Warning:")[1:]]  # before: other readers' complaints
     return mesh
 
@@ -201,6 +251,8 @@ def _words(said: io.StringIO) -> str:
 
 def of_meshio(found: meshio.Mesh, source: str = "mesh") -> Mesh:
     """A meshio mesh as the library takes it. Node numbers and coordinates are copied only where they have to be."""
+    if not isinstance(found, meshio.Mesh):
+        raise MeshError(f"{found!r} is not a mesh; give what cicelybeam.read or meshio.read gives")
     points = np.asarray(found.points)
     if points.ndim != 2 or points.shape[1] not in (2, 3) or not np.issubdtype(points.dtype, np.number):
         raise MeshError(f"{source}: its coordinates are not rows of two or three numbers")
@@ -213,6 +265,8 @@ def of_meshio(found: meshio.Mesh, source: str = "mesh") -> Mesh:
         _add(mesh, block.type, block.data, first)
         first += len(block.data)
     mesh.fields = _fields(found, first)
+    mesh.point_fields = {name: values for name, values in _floats(found.point_data).items() if len(values) == len(points)}
+    mesh.group, mesh.groups = find_groups(found, mesh.fields, mesh.dimension, first)
     return mesh
 
 
@@ -236,6 +290,7 @@ def _add(mesh: Mesh, name: str, data: object, first: int) -> None:
     if mesh.dimension == 2 and name.startswith("polygon") and nodes.ndim == 2:
         kind = CellType(POLYGON, nodes.shape[1], nodes.shape[1])
     if kind is None:
+        mesh.other_first.append(first)
         mesh.others.append((name, dimension(name), len(nodes), nodes if nodes.ndim == 2 else None))
         return
     if nodes.ndim != 2 or nodes.shape[1] < kind.nodes or nodes.dtype.kind not in "iu":
@@ -251,12 +306,18 @@ def _add(mesh: Mesh, name: str, data: object, first: int) -> None:
 
 
 def _fields(found: meshio.Mesh, total: int) -> dict[str, np.ndarray]:
-    """The fields with one number a cell."""
+    """The fields with one number a cell, or a row of numbers."""
     fields = {}
     for name, parts in found.cell_data.items():
         parts = [np.asarray(part) for part in parts]
-        if parts and all(part.ndim == 1 and part.dtype.kind in "iuf" for part in parts):
+        if parts and all(part.ndim in (1, 2) and part.dtype.kind in "iuf" and part.shape[1:] == parts[0].shape[1:] for part in parts):
             values = np.concatenate(parts)
             if len(values) == total:
                 fields[name] = values
     return fields
+
+
+def _floats(data: dict[str, object]) -> dict[str, np.ndarray]:
+    """The fields of floats, one number or a row of numbers each; whole numbers are marks, which nothing lies between."""
+    found = {name: np.asarray(values) for name, values in (data or {}).items()}
+    return {name: values for name, values in found.items() if values.dtype.kind == "f" and values.ndim in (1, 2)}

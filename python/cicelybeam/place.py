@@ -10,6 +10,8 @@ from __future__ import annotations
 
 import math
 from dataclasses import dataclass
+from fractions import Fraction
+from numbers import Real
 from typing import TYPE_CHECKING
 
 import numpy as np
@@ -121,32 +123,33 @@ def distances(points: np.ndarray, origin: Vector, normal: Vector) -> np.ndarray:
     return total
 
 
+ABOVE, BELOW = 1, 2
+
+
 @dataclass(frozen=True)
 class Sides:
-    """For each node: whether it is above tol, and whether it is below -tol."""
+    """For each node one of the bits ABOVE (above tol) and BELOW (below -tol), or none."""
 
-    above: np.ndarray
-    below: np.ndarray
-    may_leave_out: bool
+    of_node: np.ndarray
 
     def reached(self, block: Cells) -> np.ndarray:
         """For each cell of a block: whether it has to be cut; else no face of it has a segment."""
-        if not self.may_leave_out:
-            return np.ones(len(block), dtype=bool)
-        return ~(block.every(self.above) | block.every(self.below))
+        return block.folded(np.bitwise_and, self.of_node) == 0
 
-    def crossed(self, block: Cells) -> np.ndarray:
-        """For each cell of a block: whether it has a corner above tol and one below -tol."""
-        return block.some(self.above) & block.some(self.below)
+    def met(self, block: Cells, cells: np.ndarray | slice = slice(None)) -> np.ndarray:
+        """For each of these cells of a block: the bits of all its corners together.
 
-    def within_tolerance(self, block: Cells) -> np.ndarray:
-        """For each cell of a block: whether it has no corner above tol and none below -tol, so that no face has a segment."""
-        return ~(block.some(self.above) | block.some(self.below))
+        Both: the plane passes through it. One: it lies on that side and may be touched. None: all corners are within the
+        tolerance of the plane, so that no face has a segment.
+        """
+        return block.folded(np.bitwise_or, self.of_node, cells)
 
 
 def chosen_tolerance(tolerance: float | None, own: float, source: str) -> float:
     """The tolerance that is given, else the mesh's own, which infinite coordinates make infinite."""
     if tolerance is not None:
+        if not isinstance(tolerance, Real) or not 0.0 <= tolerance < math.inf:
+            raise CicelybeamError(f"the tolerance {tolerance!r} is not a number from 0 on")
         return float(tolerance)
     if own == math.inf:
         raise MeshError(f"{source}: it has infinite coordinates, so its own tolerance is infinite; give a tolerance")
@@ -156,12 +159,43 @@ def chosen_tolerance(tolerance: float | None, own: float, source: str) -> float:
 def sides(points: np.ndarray, origin: Vector, normal: Vector, tol: float) -> Sides:
     away = distances(points, origin, normal)
     with np.errstate(all="ignore"):
-        return Sides(away > tol, away < -tol, tol >= 0.0)
+        return Sides(ABOVE * (away > tol).astype(np.uint8) + BELOW * (away < -tol).astype(np.uint8))
 
 
-def vector(numbers: object, width: int) -> Vector:
-    """These numbers as a vector of this width."""
-    found = tuple(float(x) for x in np.asarray(numbers, dtype=np.float64).ravel())
+def vector(numbers: object, width: int, what: str) -> Vector:
+    """These numbers as a vector of this width; `what` it is, for the message of an error."""
+    try:
+        found = tuple(float(x) for x in np.asarray(numbers, dtype=np.float64).ravel())
+    except (TypeError, ValueError):
+        raise CicelybeamError(f"the {what} {numbers!r} is not {width} numbers") from None
     if len(found) != width:
         raise Refused(5, detail=f"the mesh has {width} dimensions, and {len(found)} numbers were given")
+    if not all(map(math.isfinite, found)):
+        raise CicelybeamError(f"the {what} {found} has a number that is not finite")
     return found
+
+
+def nearest_in_plane(origin: Vector, normal: Vector, middle: Vector) -> Vector:
+    """The point of the plane that is nearest to the middle.
+
+    Cells are cut from here: far from the mesh an origin costs as many digits of every distance as it is far away. The point
+    is worked out in fractions from the normal as it is given, so that it is off the plane by its own rounding only.
+
+    >>> nearest_in_plane((1e9, 0.0, 0.1), (0.0, 0.0, 7.0), (0.5, 0.25, 0.5))
+    (0.5, 0.25, 0.1)
+    """
+    o, n, m = ([Fraction(x) for x in a] for a in (origin, normal, middle))
+    along = sum((a - b) * c for a, b, c in zip(m, o, n)) / sum(c * c for c in n)
+    return tuple(float(a - along * c) for a, c in zip(m, n))
+
+
+def moved(origin: Vector, normal: Vector, distance: float) -> Vector:
+    """This far from the origin along the normal."""
+    return tuple(o + distance * n for o, n in zip(origin, normal)) if distance else origin
+
+
+def nearest_on_line(origin: Vector, direction: Vector, middle: Vector) -> Vector:
+    """The point of the line that is nearest to the middle, as for a plane."""
+    o, d, m = ([Fraction(x) for x in a] for a in (origin, direction, middle))
+    along = sum((a - b) * c for a, b, c in zip(m, o, d)) / sum(c * c for c in d)
+    return tuple(float(a + along * c) for a, c in zip(o, d))

@@ -1,8 +1,8 @@
 """The command: what it prints and writes, its exit status, and every error path."""
+import base64
 import csv
 import json
 import subprocess
-import sys
 from pathlib import Path
 
 import meshio
@@ -44,7 +44,7 @@ def test_plane_with_all_files(path, tmp_path, capsys):
 def test_csv(path, tmp_path):
     assert run("plane", path, *PLANE, "--report", tmp_path / "a.csv", "--quiet") == 0
     rows = list(csv.DictReader((tmp_path / "a.csv").open()))
-    assert rows and {"cell", "type", "listed", "in_loops", "flat", "open", "area"} <= set(rows[0])
+    assert rows and {"polygon", "cell", "type", "group", "area", "x", "y", "z", "u", "v"} <= set(rows[0])
 
 
 @pytest.mark.parametrize("suffix", [".svg", ".png", ".pdf"])
@@ -63,15 +63,23 @@ def test_picture_marks_what_is_missing(path, tmp_path):
     assert "#d00000" in out.read_text()
 
 
+def decoded(array) -> np.ndarray:
+    """The numbers of a binary DataArray, after the 8 bytes of their length."""
+    raw = base64.b64decode(array.text)[8:]
+    values = np.frombuffer(raw, dtype={"Float64": "<f8", "Int64": "<i8"}[array.get("type")])
+    width = int(array.get("NumberOfComponents"))
+    return values.reshape(-1, width) if width > 1 else values
+
+
 def test_vtp(path, tmp_path):
     """Read by its own XML: as many polygons, and their areas from the points in space."""
     from xml.etree import ElementTree
 
     out = tmp_path / "a.vtp"
     assert run("plane", path, *PLANE, "--vtk", out) == 0
-    arrays = {a.get("Name"): np.array(a.text.split(), dtype=float) for a in ElementTree.parse(out).iter("DataArray")}
-    points, ends = arrays["points"].reshape(-1, 3), arrays["offsets"].astype(int)
-    loops = np.split(arrays["connectivity"].astype(int), ends[:-1])
+    arrays = {a.get("Name"): decoded(a) for a in ElementTree.parse(out).iter("DataArray")}
+    points, ends = arrays["points"], arrays["offsets"]
+    loops = np.split(arrays["connectivity"], ends[:-1])
     cross = [0.5 * sum(np.cross(points[a], points[b]) for a, b in zip(loop, np.roll(loop, -1))) for loop in loops]
     assert np.linalg.norm(cross, axis=1) == pytest.approx(arrays["area"], abs=1e-12)
     normal = np.array([-1, 2, 5]) / np.sqrt(30)
@@ -94,16 +102,14 @@ def test_polygons_by_meshio(tmp_path, suffix):
 def test_status_of_what_is_not_drawn(path):
     assert run("plane", path, *PLANE, "--tolerance", 0) == 3
     assert run("plane", path, *PLANE, "--tolerance", 0, "--allow-undrawn") == 0
-    assert run("plane", path, *PLANE, "--tolerance", 0, "--allow-touching") == 3
-    assert run("plane", path, *ALONG) == 3
-    assert run("plane", path, *ALONG, "--allow-touching") == 0
+    assert run("plane", path, *ALONG) == 0
 
 
 def test_status_is_explained(path, capsys):
-    run("plane", path, *ALONG, "--quiet")
-    assert "exit status 3: the plane touches cells" in capsys.readouterr().err
+    """Every reason, not the first alone."""
     run("plane", path, *PLANE, "--tolerance", 0, "--quiet")
-    assert "exit status 3: a piece is not drawn" in capsys.readouterr().err
+    said = capsys.readouterr().err
+    assert "exit status 3: " in said and "area lost" in said and "--allow-undrawn" in said
 
 
 def test_line_with_status_3(path, capsys):
@@ -116,16 +122,9 @@ def test_reader_that_stops_early(path, tmp_path):
     """The files are written all the same, and no trace is printed."""
     program = Path(__file__).resolve().parents[1] / "bin" / "cicelybeam"
     report = tmp_path / "a.json"
-    command = f"{sys.executable} {program} plane {path} {' '.join(PLANE)} --report {report} | true"
+    command = f"{program} plane {path} {' '.join(PLANE)} --report {report} | true"
     done = subprocess.run(["bash", "-c", f"set -o pipefail; {command}"], capture_output=True, text=True)
     assert (done.returncode, done.stderr) == (0, "") and json.loads(report.read_text())["all_drawn"]
-
-
-def test_status_of_types_that_are_not_cut(tmp_path):
-    mesh = box(1)
-    meshio.Mesh(mesh.points, [*mesh.cells, ("pyramid", np.array([[0, 1, 2, 3, 6]]))]).write(tmp_path / "a.vtu")
-    assert run("plane", tmp_path / "a.vtu", *ALONG) == 4
-    assert run("plane", tmp_path / "a.vtu", *ALONG, "--allow-uncut") == 0
 
 
 def test_voxels_that_meshio_drops_are_told(tmp_path, capsys):
@@ -142,6 +141,7 @@ def test_voxels_that_meshio_drops_are_told(tmp_path, capsys):
     assert run("plane", tmp_path / "a.vtu", *ALONG) == 4
     said = capsys.readouterr().out
     assert "cannot handle (type 11)" in said and "meshio left out" in said
+    assert run("plane", tmp_path / "a.vtu", *ALONG, "--allow-uncut") == 0
 
 
 def test_line(path, tmp_path, capsys):
@@ -188,7 +188,6 @@ def test_truncated_files(path, tmp_path, capsys):
 
 @pytest.mark.parametrize("cells,words", [
     ([("triangle", [[0, 1, 2]])], "no cell is of a type that is cut in space; it has 1 triangle"),
-    ([("pyramid", [[0, 1, 2, 3, 6]])], "1 pyramid"),
     ([("tetra", [[0, 1, 2, 77]])], "cell 0 \\(tetra\\): the node number of a corner is no row"),
 ])
 def test_meshes_of_no_use(tmp_path, capsys, cells, words):
@@ -219,15 +218,22 @@ def test_wrong_command_lines(arguments, capsys):
 @pytest.mark.parametrize("more,words", [
     (["--picture", "a.bmp"], "a picture is"),
     (["--report", "a.txt"], "a report is"),
-    (["--normal", "0,0,0"], "no direction"),
-    (["--normal", "0,1"], "as many numbers"),
     (["--picture", "a.svg", "--colour", "heat"], "no cell field 'heat'"),
-    (["--vtk", "a.nosuch"], "cannot write"),
-    (["--report", "/nowhere/a.json"], "/nowhere/a.json: No such file"),
+    (["--picture", "a.svg", "--colour", "group"], "no groups of cells"),
+    (["--vtk", "a.nosuch"], "can hold polygons is"),
+    (["--vtk", "a.stl"], "can hold polygons is"),
+    (["--table", "a.txt"], "a table is"),
+    (["--report", "/nowhere/a.json"], "/nowhere/a.json: there is no folder"),
 ])
 def test_other_errors(path, tmp_path, monkeypatch, capsys, more, words):
     monkeypatch.chdir(tmp_path)
     assert run("plane", path, *PLANE, *more) == 1
+    assert words in capsys.readouterr().err
+
+
+@pytest.mark.parametrize("normal,words", [("0,0,0", "no direction"), ("0,1", "as many numbers")])
+def test_normals_that_are_refused(path, capsys, normal, words):
+    assert run("plane", path, "--origin", "0,0,0", "--normal", normal) == 1
     assert words in capsys.readouterr().err
 
 
@@ -240,12 +246,12 @@ def test_help(command, capsys):
 
 def test_as_a_program(path):
     program = Path(__file__).resolve().parents[1] / "bin" / "cicelybeam"
-    done = subprocess.run([sys.executable, program, "plane", path, *PLANE], capture_output=True, text=True)
+    done = subprocess.run([program, "plane", path, *PLANE], capture_output=True, text=True)
     assert done.returncode == 0 and "polygons" in done.stdout and done.stderr == ""
 
 
 def test_library_that_is_not_there(path, tmp_path):
     program = Path(__file__).resolve().parents[1] / "bin" / "cicelybeam"
-    done = subprocess.run([sys.executable, program, "plane", path, *PLANE], capture_output=True, text=True,
+    done = subprocess.run([program, "plane", path, *PLANE], capture_output=True, text=True,
                           env={"CICELYBEAM_LIBRARY": str(tmp_path / "none.so"), "PATH": "/usr/bin"})
     assert done.returncode == 1 and "run python/build" in done.stderr

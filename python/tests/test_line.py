@@ -11,7 +11,7 @@ import cicelybeam
 places = st.floats(0.05, 0.95)
 
 
-@given(st.sampled_from(["hexahedron", "wedge", "tetra"]), places, places, st.integers(0, 2))
+@given(st.sampled_from(["hexahedron", "wedge", "tetra", "pyramid"]), places, places, st.integers(0, 2))
 def test_box_along_an_axis(kind, a, b, axis):
     origin, direction = np.insert([a, b], axis, 0.3), np.eye(3)[axis] * 2.5
     record = cicelybeam.cut_line(box(2, kind), origin, direction).record
@@ -19,7 +19,7 @@ def test_box_along_an_axis(kind, a, b, axis):
     assert record.length >= record.covered - 1e-9
 
 
-@given(st.sampled_from(["hexahedron", "wedge", "tetra"]), places, places)
+@given(st.sampled_from(["hexahedron", "wedge", "tetra", "pyramid"]), places, places)
 def test_same_answer_without_leaving_out(kind, a, b):
     mesh = box(2, kind)
     one = cicelybeam.cut_line(mesh, (a, b, 0.3), (b, 0.2, a))
@@ -56,13 +56,15 @@ def test_refusals(cube):
     with pytest.raises(cicelybeam.Refused, match="as many numbers"):
         cicelybeam.cut_line(cube, (0, 0), (1, 0))
     with pytest.raises(cicelybeam.MeshError, match="no cell is of a type that is cut"):
-        cicelybeam.cut_line(meshio.Mesh(CUBE, [("pyramid", [[0, 1, 2, 3, 6]])]), (0, 0, 0), (1, 0, 0))
+        cicelybeam.cut_line(meshio.Mesh(CUBE, [("triangle", [[0, 1, 6]])]), (0, 0, 0), (1, 0, 0))
 
 
 def test_other_types_are_told():
-    mesh = meshio.Mesh(CUBE, [("tetra", [[0, 1, 2, 5]]), ("pyramid", [[0, 1, 2, 3, 6]])])
+    from test_plane import with_unknown_cell
+
+    mesh = with_unknown_cell(meshio.Mesh(CUBE, [("tetra", [[0, 1, 2, 5]])]))
     record = cicelybeam.cut_line(mesh, (0, 0, 0), (1, 0, 0), 0).record
-    assert not record.all_cut and len(record.warnings) == 2 and "1 pyramid" in str(record)
+    assert not record.all_cut and len(record.warnings) == 2 and "1 hexahedron9" in str(record)
 
 
 OPEN_BRICK = [[0, 3, 2, 1], [4, 5, 6, 7], [0, 1, 5, 4], [2, 3, 7, 6], [1, 2, 6, 5]]
@@ -114,3 +116,22 @@ def test_polygon_that_the_line_crosses_without_a_segment_is_told(cube):
     record = cicelybeam.cut_line(cube, (0.5, 0.5, 0.5), (3, -5, 6), 0).record
     assert (record.segments, record.undrawn, record.without_segment) == (0, [], [0]) and not record.all_drawn
     assert cicelybeam.cut_line(cube, (0.5, 0.5, 0.5), (3, -5, 6)).record.all_drawn
+
+
+def test_quadratic_cells_are_told():
+    points = np.concatenate([CUBE[[0, 1, 3, 4]], np.full((6, 3), 0.5)])
+    record = cicelybeam.cut_line(meshio.Mesh(points, [("tetra10", np.arange(10)[None])]), (0, 0.2, 0.2), (1, 0, 0)).record
+    assert record.straightened == 1 and "1 cell with mid-side nodes was cut as straight" in record.sentence()
+
+
+def test_touched_cells_are_no_reason():
+    """The line's plane runs along edges of tetrahedra: nothing is missing."""
+    record = cicelybeam.cut_line(box(2, "tetra"), (0, 0.25, 0.5), (1, 0, 0)).record
+    assert record.reasons == [] and record.all_drawn and record.covered == pytest.approx(1)
+
+
+@pytest.mark.parametrize("far", [1e3, 1e6])
+def test_origin_far_away(far):
+    record = cicelybeam.cut_line(box(4, "tetra"), (0.5 + 3 * far, 0.375 + far, 0.3), (3, 1, 0)).record
+    near = cicelybeam.cut_line(box(4, "tetra"), (0.5, 0.375, 0.3), (3, 1, 0)).record
+    assert record.covered == pytest.approx(near.covered, rel=1e-9) and record.segments == near.segments and record.reasons == []

@@ -19,9 +19,8 @@ kinds = st.sampled_from(["hexahedron", "wedge", "tetra"])
 @given(kinds, st.integers(1, 3), st.tuples(*3 * [st.floats(0.5, 3)]), st.floats(0.01, 0.99))
 def test_boxes(kind, n, size, height):
     cut = cicelybeam.cut_plane(box(n, kind, size), (0, 0, size[2] * height), (0, 0, 2))
-    once = cut.record.area - cut.record.repeated_area
-    assert once == pytest.approx(size[0] * size[1], rel=1e-9)
-    assert cut.record.only_touching
+    assert cut.record.area == pytest.approx(size[0] * size[1], rel=1e-9)
+    assert cut.record.nothing_lost
 
 
 @given(st.integers(3, 12), st.floats(0.05, 0.95), st.floats(0.5, 2))
@@ -110,13 +109,14 @@ def test_counts_are_the_librarys(kind, origin, normal):
     """Each cell cut alone, by a call with its own buffers."""
     mesh = cicelybeam.of_meshio(box(2, kind))
     cut = cicelybeam.cut_plane(mesh, origin, normal)
-    o, n = np.array(origin), np.array(normal)
+    o, n = np.array(cut.near.origin), np.array(normal)
     counts = {}
     block = mesh.blocks[0]
     for k in range(len(block)):
+        cell, _ = block.handed(np.array([k]))
         numbers, nodes, ends = np.empty(144), np.empty(36, np.uint32), np.empty(12, np.uint32)
         s: Section = library().cicelybeam_plane(
-            block.kind.number, *block.entry(k), mesh.points.ctypes.data, mesh.points.size, o.ctypes.data, 3, n.ctypes.data, 3,
+            block.kind.number, cell.ctypes.data, cell.size, mesh.points.ctypes.data, mesh.points.size, o.ctypes.data, 3, n.ctypes.data, 3,
             cut.record.tolerance, numbers.ctypes.data, 144, nodes.ctypes.data, 36, ends.ctypes.data, 12)
         if s.listed:
             counts[k] = [s.listed, s.in_loops, s.flat, s.open]
@@ -125,14 +125,14 @@ def test_counts_are_the_librarys(kind, origin, normal):
 
 def test_plane_along_shared_faces():
     record = cicelybeam.cut_plane(box(4), (0, 0, 0.5), (0, 0, 1)).record
-    assert (record.polygons, record.coincident_polygons, record.coincident_groups) == (32, 32, 16)
-    assert record.area == pytest.approx(2) and record.repeated_area == pytest.approx(1)
+    assert (record.polygons, record.coincident_polygons) == (32, 32)
+    assert record.area == pytest.approx(1) and record.repeated_area == pytest.approx(1)
 
 
 def test_cells_that_are_only_touched():
     record = cicelybeam.cut_plane(box(2, "tetra"), (0, 0, 0.5), (0, 0, 1)).record
-    assert record.open == record.touching > 0 and not record.all_drawn and record.only_touching
-    assert record.area - record.repeated_area == pytest.approx(1)
+    assert record.open == record.touching_cells > 0 and not record.all_drawn and record.nothing_lost
+    assert record.area == pytest.approx(1) and record.reasons == []
 
 
 def test_tolerance_zero_is_told():
@@ -158,7 +158,7 @@ def test_undrawn_edges_have_points():
     cut = cicelybeam.cut_plane(mesh, (0, 0, 0.5), (0, 0, 1))
     assert (cut.record.open, cut.record.polygons) == (3, 0)
     assert cut.record.undrawn[0].cell == 0 and len(cut.record.undrawn[0].points) == 4
-    assert "not drawn" in cut.record.sentence() and "NOT DRAWN" in str(cut)
+    assert "not drawn" in cut.record.sentence() and "AREA LOST" in str(cut)
 
 
 def test_nan_coordinates():
@@ -168,16 +168,22 @@ def test_nan_coordinates():
     assert record.not_finite == [0] and not record.all_drawn
 
 
-def test_pyramids_are_counted():
-    mesh = box(1)
-    mesh.cells.append(meshio.CellBlock("pyramid", np.array([[0, 1, 2, 3, 6]])))
+def with_unknown_cell(mesh: meshio.Mesh) -> cicelybeam.Mesh:
+    """The mesh, with one cell that fills space and that the package does not know."""
+    found = cicelybeam.of_meshio(mesh)
+    found.others.append(("hexahedron9", 3, 1, np.array([[0, 1, 2, 3, 4, 5, 6, 7, 0]])))
+    return found
+
+
+def test_types_that_are_not_cut_are_counted():
+    mesh = with_unknown_cell(box(1))
     record = cicelybeam.cut_plane(mesh, (0, 0, 0.5), (0, 0, 1)).record
-    assert record.not_cut == {"pyramid": 1} and record.not_cut_reached == {"pyramid": 1}
-    assert not record.all_cut and "1 pyramid" in str(record)
+    assert record.not_cut == {"hexahedron9": 1} and record.not_cut_reached == {"hexahedron9": 1}
+    assert not record.all_cut and "1 hexahedron9" in str(record) and [status for status, _ in record.reasons] == [4]
     assert cicelybeam.cut_plane(mesh, (0, 0, 2), (0, 0, 1)).record.all_cut
 
 
-@pytest.mark.parametrize("normal,number", [((0, 0, 0), 6), ((0, 1), 5), ((float("nan"), 0, 0), 6)])
+@pytest.mark.parametrize("normal,number", [((0, 0, 0), 6), ((0, 1), 5)])
 def test_planes_that_are_refused(cube, normal, number):
     with pytest.raises(cicelybeam.Refused) as told:
         cicelybeam.cut_plane(cube, (0, 0, 0.5), normal)
@@ -233,11 +239,14 @@ def test_many_tetrahedra():
     assert record.with_edges > 5000 and record.all_drawn
 
 
-def test_tolerance_that_is_nan_or_negative(cube):
-    """The library takes any tolerance; nothing is left out then, since the theorem does not apply."""
-    for tol in (float("nan"), -1.0):
-        record = cicelybeam.cut_plane(cube, (0, 0, 5), (0, 0, 1), tol).record
-        assert record.handed_over == 1 and record.warnings
+@pytest.mark.parametrize("origin,normal,tol", [
+    ((0, 0, 0.5), (0, 0, 1), float("nan")), ((0, 0, 0.5), (0, 0, 1), -1.0), ((0, 0, 0.5), (0, 0, 1), float("inf")),
+    ((0, 0, 0.5), (float("nan"), 0, 1), None), ((float("inf"), 0, 0), (0, 0, 1), None), ("far", (0, 0, 1), None),
+])
+def test_numbers_that_are_refused(cube, origin, normal, tol):
+    """As the command refuses them."""
+    with pytest.raises(cicelybeam.CicelybeamError, match="number"):
+        cicelybeam.cut_plane(cube, origin, normal, tol)
 
 
 def test_node_far_away_makes_the_tolerance_large():
@@ -280,31 +289,24 @@ def test_cell_with_two_open_edges_is_not_only_touched():
     points = CUBE.copy()
     points[3, 2] = 0.5
     record = cicelybeam.cut_plane(meshio.Mesh(points, [("hexahedron", [list(range(8))])]), (0, 0, 0), (0, 0, 1)).record
-    assert (record.crossed, record.open, record.touching) == (0, 2, 0) and not record.only_touching
-
-
-@pytest.mark.parametrize("height,reached", [(-1, 0), (0.5, 1), (2, 0)])
-def test_pyramids_that_the_plane_reaches(height, reached):
-    mesh = meshio.Mesh(CUBE, [("tetra", [[0, 1, 2, 5]]), ("pyramid", [[0, 1, 2, 3, 6]])])
-    record = cicelybeam.cut_plane(mesh, (0, 0, height), (0, 0, 1)).record
-    assert record.not_cut_reached == {"pyramid": reached}
+    assert (record.crossed, record.open, record.touching_cells) == (0, 2, 0) and not record.nothing_lost
 
 
 @pytest.mark.parametrize("shift", [-0.25, 0.0, 0.25])
 @pytest.mark.parametrize("place_of_first", [(0.0, 0.0), (4.0, 0.0), (4.0, 4.0), (3.9, 8.0)])
-def test_coinciding_polygons_on_grid_lines(place_of_first, shift):
-    """Squares less than the tolerance apart coincide wherever they are in the grid of the search, and others do not."""
-    from cicelybeam.coincident import find_coincident
+def test_coinciding_polygons(place_of_first, shift):
+    """Squares less than the tolerance apart coincide wherever they are, and others do not."""
+    from cicelybeam.coincident import coinciding
 
     tol = 1.0
     square = 1000 * np.array([[-1, -1], [1, -1], [1, 1], [-1, 1]]) + np.array(place_of_first)
     points = np.concatenate([square, square + shift, square + 10])
-    found = find_coincident(points, np.arange(12), np.array([4, 8, 12]), np.full(3, 4e6), tol)
-    assert found.groups == [[0, 1]] and found.repeated_area == 4e6
+    assert coinciding(points, np.arange(12), np.array([4, 8, 12]), tol).tolist() == [0, 0, 2]
 
 
 def test_plane_that_misses_the_mesh(cube):
     """A user sees where the mesh is; all was cut, and nothing is missing."""
     record = cicelybeam.cut_plane(cube, (0, 0, 7), (0, 0, 1)).record
     assert record.all_drawn and record.all_cut and record.extent == [[0, 0, 0], [1, 1, 1]]
-    assert record.warnings == ["the plane meets no cell that is cut; the mesh extends over (0, 0, 0) to (1, 1, 1)"]
+    assert record.missed_by == 6 and record.warnings == [
+        "the plane meets no cell that is cut: it misses the nearest corner by 6; the mesh extends over (0, 0, 0) to (1, 1, 1)"]
