@@ -119,7 +119,7 @@ pub fn cut_plane_cell_by_direction(
 }
 
 fn written(found: linked::Section) -> Result<Written, Refusal> {
-    answered(found.refusal)?;
+    answered(found.refusal, found.tells_nothing())?;
     Ok(Written {
         points: found.points as usize,
         nodes: found.nodes as usize,
@@ -134,10 +134,15 @@ fn written(found: linked::Section) -> Result<Written, Refusal> {
 }
 
 fn segments(found: linked::Line) -> Result<usize, Refusal> {
-    answered(found.refusal)?;
+    answered(found.refusal, found.segments == 0)?;
     Ok(found.segments as usize)
 }
 
-pub(crate) fn answered(refusal: u32) -> Result<(), Refusal> {
-    Refusal::of_number(refusal).map_or(Ok(()), Err)
+/// With a refusal the library tells nothing else. If it did, it would not be the library of this crate.
+pub(crate) fn answered(refusal: u32, nothing_else: bool) -> Result<(), Refusal> {
+    let Some(refusal) = Refusal::of_number(refusal) else {
+        return Ok(());
+    };
+    assert!(nothing_else, "the linked library tells more beside a refusal");
+    Err(refusal)
 }

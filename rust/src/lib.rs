@@ -183,13 +183,13 @@ pub fn stitch(segments: &[[[f64; 2]; 2]], tol: f64) -> Result<Section, Refusal> 
 /// ```
 pub fn tolerance_in_space(coords: &[f64]) -> Result<f64, Refusal> {
     let found = linked::tolerance_in_space(coords);
-    answered(found.refusal).map(|()| found.value)
+    answered(found.refusal, found.value == 0.0).map(|()| found.value)
 }
 
 /// The tolerance of a mesh with these coordinates, two a row, as [`tolerance_in_space`].
 pub fn tolerance_in_plane(coords: &[f64]) -> Result<f64, Refusal> {
     let found = linked::tolerance_in_plane(coords);
-    answered(found.refusal).map(|()| found.value)
+    answered(found.refusal, found.value == 0.0).map(|()| found.value)
 }
 
 /// The square root as IEEE 754 has it.

@@ -20,6 +20,13 @@ pub struct Section {
     pub open: u32,
 }
 
+impl Section {
+    pub fn tells_nothing(&self) -> bool {
+        let told = [self.points, self.nodes, self.loops, self.listed, self.in_loops, self.flat, self.open];
+        told == [0; 7]
+    }
+}
+
 #[repr(C)]
 pub struct Line {
     pub refusal: u32,

@@ -6,10 +6,10 @@ use mathlib.Core.Bool.{Bool, true, _&&_}
 use lib.Dec.{T, ltb}
 use lib.Ieee.{Float}
 use lib.ListN.{length, take}
-use Rattle.rows.specs.Rows.{endsFrom, over}
+use Rattle.rows.specs.Rows.{endsFrom}
 use Rattle.rows.specs.Outcome.{Outcome, found, unless}
 use Rattle.cell.specs.Faces.{Face, polygonOf}
-use Rattle.cell.specs.Read.{corner, areRows, polygons, Polygon, Copied, CopiedPolygon}
+use Rattle.cell.specs.Read.{corner, areRows, polygons, Polygon, Copied}
 use Rattle.cell.specs.declared.Kept.{Kept}
 
 -- ---- positions of the connectivity

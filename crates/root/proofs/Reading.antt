@@ -135,3 +135,7 @@ at-infinity = refl
 pub at-nothing : ofBits binary64 0 ≡ sqrtOf binary64 (ofBits binary64 0)
 unfolding sqrtOf ofBits
 at-nothing = refl
+
+pub at-one : ofBits binary64 (1023 * 2 ^ 52) ≡ sqrtOf binary64 (ofBits binary64 (1023 * 2 ^ 52))
+unfolding sqrtOf ofBits
+at-one = refl

@@ -22,6 +22,9 @@ pub fn sqrt(x: f64) -> f64
     }
 }
 
+// The pattern of 1, the squared norm of unit vectors: axes, and normals that are unit already, take no root.
+const ONE: u64 = 0x3ff0_0000_0000_0000;
+
 // The root of what a pattern stands for, which is no NaN.
 fn root_of_bits(b: u64) -> f64
     requires { ⌜ T (not (nanBits binary64 b)) ⌝ }
@@ -30,7 +33,7 @@ fn root_of_bits(b: u64) -> f64
     if b > 0x8000_0000_0000_0000 {
         return 0.0 / 0.0;
     }
-    if b == 0x8000_0000_0000_0000 || b == 0x7ff0_0000_0000_0000 || b == 0 {
+    if b == 0x8000_0000_0000_0000 || b == 0x7ff0_0000_0000_0000 || b == 0 || b == ONE {
         return f64::from_bits(b);
     }
     if b < 0x10_0000_0000_0000 {

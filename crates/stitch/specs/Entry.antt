@@ -3,7 +3,7 @@
 use mathlib.Core.Path.{_≡_}
 use mathlib.Core.List.{List, [], flatten}
 use mathlib.Core.Bool.{Bool, _&&_}
-use Prim.Native.Nat.{ℕ, _+_, _*_, _/_, _%_, _≤_}
+use Prim.Native.Nat.{ℕ, _*_, _/_, _%_, _≤_}
 use lib.Dec.{eqb, leb}
 use lib.ListN.{length}
 use lib.Ieee.{Float}
@@ -132,7 +132,7 @@ pub record Small (r : Told) : Type 0 where
   pub nodes : r .answer .nodes ≤ 384
   pub loops : r .answer .loops ≤ 128
   pub listed : r .answer .counts .listed ≤ 384
-  pub adds-up : inWalks (r .answer .counts) ≤ r .answer .counts .listed
+  pub adds-up : r .answer .counts .listed ≡ inWalks (r .answer .counts)
 
 abbrev pub StitchSmall : Type 0
 StitchSmall = (xs : List Float) (tol : Float) (l : Lengths) → Small (told (stitchAlone xs tol l))
