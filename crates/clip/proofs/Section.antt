@@ -2,10 +2,10 @@
 use mathlib.Core.Path.{_≡_, refl, ap, sym, _∙_}
 use mathlib.Core.List.{List, []}
 use mathlib.Core.Logic.{_⊎_, inl, inr}
-use mathlib.Core.Bool.{true, false, false≢true, true≢false}
+use mathlib.Core.Bool.{true}
 use Prim.Native.Nat.{ℕ, _≤_, _<_}
 use native.Mathlib.Omega.{arith}
-use lib.Ieee.{Float, eq, le}
+use lib.Ieee.{Float, le}
 use lib.ListN.{length}
 use borrow.Author.Tests.{lt-ltb, le-ltb}
 use Rattle.vector.specs.Number.{f0}
@@ -13,11 +13,11 @@ use Rattle.vector.specs.Vector.{Vector}
 use Rattle.vector.specs.Rows.{Seg, rows}
 use Rattle.vector.proofs.Rows.{rows-length, segs-length}
 use Rattle.clip.specs.declared.Side.{Side}
-use Rattle.clip.specs.declared.Side.the-variants.{Above, Below, Neither}
+use Rattle.clip.specs.declared.Side.the-variants.{Neither}
 use Rattle.clip.specs.Clip.{Cut, bySide, clipped, edges, keptSide, planeSectionSegments, pushSegments, sectionOn, tolSquared, withoutClosing}
 use Rattle.clip.specs.Clear.{Each, Higher, Lower}
 use Rattle.clip.specs.Cell.{atMost}
-use Rattle.clip.specs.Code.{Points, Segments, Sided, signOf}
+use Rattle.clip.specs.Code.{Points, Segments, Sided}
 use Rattle.clip.proofs.Bound.{section-bound}
 use Rattle.clip.proofs.Clear.{left-out}
 use Rattle.clip.proofs.KeptSide.{from-side}
@@ -41,19 +41,6 @@ module _ {w : ℕ} (c : Cut) (s : Float) (n : ℕ) (ps : List Float) (r : ℕ) {
       → Segments w ys (sectionOn c s (rows w n ps)) o us
   many-points q = segments-as (rw (← left, rows-length w r zs, le-ltb r 2 q))
 
--- ---- a side by its sign
-neither-none : (c : Cut) (ps : List Vector) (g : Side) → eq (signOf g) f0 ≡ true → bySide c ps g ≡ []
-unfolding eq
-neither-none c ps Above h = absurd (false≢true h)
-neither-none c ps Below h = absurd (false≢true h)
-neither-none c ps Neither h = refl
-
-side-section : (c : Cut) (ps : List Vector) (g : Side) → eq (signOf g) f0 ≡ false → bySide c ps g ≡ sectionOn c (signOf g) ps
-unfolding eq
-side-section c ps Above h = refl
-side-section c ps Below h = refl
-side-section c ps Neither h = absurd (true≢false h)
-
 -- ---- the whole
 module _ (w : ℕ) (c : Cut) (n : ℕ) (ps : List Float) where
   pub few-corners : n < 3 → (xs : List Float) → Segments w xs (planeSectionSegments c (rows w n ps)) 0 xs
@@ -72,14 +59,9 @@ module _ (w : ℕ) (c : Cut) (n : ℕ) (ps : List Float) where
       none t (inl a) = left-out c (rows w n ps) .above t a
       none t (inr b) = left-out c (rows w n ps) .below t b
 
-  pub on-neither : {g : Side} {qs : List Float} {s : Float} → 3 ≤ n → Sided c w n ps g qs → s ≡ signOf g → eq s f0 ≡ true
-      → (xs : List Float) → Segments w xs (planeSectionSegments c (rows w n ps)) 0 xs
-  on-neither {g} l h e q xs = no-segments w xs (of-side l h ∙ neither-none c (rows w n ps) g (rw e at q))
-
-  pub on-side : {g : Side} {qs : List Float} {s : Float} → 3 ≤ n → Sided c w n ps g qs → s ≡ signOf g → eq s f0 ≡ false
-      → {xs : List Float} {r : ℕ} {zs : List Float} → Segments w xs (sectionOn c s (rows w n ps)) r zs
-      → Segments w xs (planeSectionSegments c (rows w n ps)) r zs
-  on-side {g} l h e q = segments-as (of-side l h ∙ side-section c (rows w n ps) g (rw e at q) ∙ rw e)
+  pub on-side : {g : Side} {qs : List Float} → 3 ≤ n → Sided c w n ps g qs → {xs : List Float} {r : ℕ} {zs : List Float}
+      → Segments w xs (bySide c (rows w n ps) g) r zs → Segments w xs (planeSectionSegments c (rows w n ps)) r zs
+  on-side l h = segments-as (of-side l h)
 
   pub section-count : {xs : List Float} {r : ℕ} {zs : List Float} → Segments w xs (planeSectionSegments c (rows w n ps)) r zs → r ≤ atMost n
   section-count {xs} {r} {zs} h =

@@ -7,14 +7,14 @@ use Prim.Native.Nat.{ℕ, _+_, _-_, _*_, _≤_, _<_}
 use lib.Dec.{eqb, ltb}
 use lib.Ieee.{Float, nan, le}
 use lib.ListN.{length, getD, drop}
-use Rattle.vector.specs.Number.{f0, f1, minusOne}
+use Rattle.vector.specs.Number.{f0}
 use Rattle.vector.specs.Vector.{Vector, Frame}
 use Rattle.vector.specs.Rows.{Seg, row, rows, segs}
 use Rattle.clip.specs.declared.Clipped.{Clipped}
 use Rattle.clip.specs.declared.Found.{Found}
 use Rattle.clip.specs.declared.Side.{Side}
 use Rattle.clip.specs.declared.Side.the-variants.{Above, Below, Neither}
-use Rattle.clip.specs.Clip.{Cut, away, clipEdge, clipSides, edges, keptSide, planeIntersection, planeSectionSegments, pushAll}
+use Rattle.clip.specs.Clip.{Cut, away, clipEdge, clipSides, edges, keptSide, planeIntersection, planeSectionSegments, pushAll, sectionOn}
 use Rattle.clip.specs.Cell.{atMost, cellSegments}
 use Rattle.clip.specs.Clear.{Each, Higher, Lower}
 
@@ -45,6 +45,10 @@ pub record PolygonClipped (w : ℕ) (c : Cut) (s tol2 : Float) (ps : List Vector
   where
     pub points : Points w xs (pushAll tol2 [] (clipSides c s (edges ps))) (r .points) zs
 
+-- The polygon ps was cut with the sign s, and its segments are in the buffer xs, which has become zs.
+pub record SideCut (w : ℕ) (c : Cut) (s : Float) (ps : List Vector) (xs : List Float) (r : Found) (zs : List Float) : Type 0 where
+  pub segments : Segments w xs (sectionOn c s ps) (r .segments) zs
+
 -- The polygon ps was cut, and its segments are in the buffer xs, which has become zs.
 pub record FaceCut (w : ℕ) (c : Cut) (ps : List Vector) (xs : List Float) (r : Found) (zs : List Float) : Type 0 where
   pub segments : Segments w xs (planeSectionSegments c ps) (r .segments) zs
@@ -72,12 +76,6 @@ pub record Sided (c : Cut) (w n : ℕ) (ps : List Float) (g : Side) (xs : List F
 abbrev pub sideOf : ℕ → ℕ → ℕ → Float → Side
 sideOf above below n tol =
     cond (le f0 tol && (eqb above n || eqb below n)) Neither (cond (ltb 0 above) Above (cond (ltb 0 below) Below Neither))
-
--- the sign by which distances on a side become positive; 0 on neither
-abbrev pub signOf : Side → Float
-signOf Above = f1
-signOf Below = minusOne
-signOf Neither = f0
 
 -- The faces whose ends are running totals from s on: no end is below the one before it, or above m, and each face has room for
 -- its clipped points in p numbers and for its segments in space in q numbers.

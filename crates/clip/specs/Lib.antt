@@ -2,4 +2,3 @@ pub mod Clip
 pub mod Cell
 pub mod Clear
 pub mod Code
-pub mod View

@@ -197,7 +197,7 @@ fn gather_large(t: u8, conn: &[u64], xs: &[f64], plane: Plane, tol: f64, out: &m
     let k = cell::copy_space_cell(t, conn, xs, &mut coords, &mut face_ends);
     let m = k.corners;
     let f = k.faces;
-    clip::cell_segments(
+    clip_space::cell_segments(
         &coords,
         &face_ends[..f],
         m,
@@ -222,7 +222,7 @@ fn gather_small(t: u8, conn: &[u64], xs: &[f64], plane: Plane, tol: f64, out: &m
     let k = cell::copy_space_cell(t, conn, xs, &mut coords, &mut face_ends);
     let m = k.corners;
     let f = k.faces;
-    clip::cell_segments(
+    clip_space::cell_segments(
         &coords,
         &face_ends[..f],
         m,
@@ -247,7 +247,7 @@ fn gather_fixed(t: u8, conn: &[u64], xs: &[f64], plane: Plane, tol: f64, out: &m
     let k = cell::copy_space_cell(t, conn, xs, &mut coords, &mut face_ends);
     let m = k.corners;
     let f = k.faces;
-    clip::cell_segments(
+    clip_space::cell_segments(
         &coords,
         &face_ends[..f],
         m,

@@ -8,7 +8,7 @@ ghost use Rattle.vector.specs.Rows.{rows, segs};
 ghost use Rattle.cell.specs.Read.{cell, polygonsOf, spaceCell};
 ghost use Rattle.clip.specs.Cell.{atMost};
 ghost use Rattle.clip.specs.Code.{Points, Segments};
-ghost use Rattle.clip.specs.View.{cut2};
+ghost use Rattle.clip_plane.specs.View.{cut2};
 ghost use Rattle.stitch.specs.Code.{Below};
 ghost use Rattle.stitch.specs.Walk.{pointAt};
 ghost use Rattle.cuts.specs.Cuts.{through};
@@ -19,7 +19,7 @@ ghost use Rattle.line_cut.specs.Code.{CanLine, LineGiven, Loop, LoopCut,
 use cell::Reading;
 use cell::types::SpaceType;
 use clip::Found;
-use clip::plane::Cut;
+use clip_plane::polygon::Cut;
 use cuts::Line;
 use cuts::Placing;
 use cuts::Way;
@@ -204,7 +204,7 @@ fn cut_loop(
         r (now (numbers .exit)) ⌝ }
 {
     loop_points(points, p, nodes, polygon);
-    let found = clip::plane::plane_section_segments(polygon, nodes.len(), axis(tol), clipped, flat);
+    let found = clip_plane::polygon::plane_section_segments(polygon, nodes.len(), axis(tol), clipped, flat);
     Found {
         segments: put_on_line(flat, found.segments, plane, numbers, from),
     }

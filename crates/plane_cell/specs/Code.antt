@@ -8,7 +8,7 @@ use Rattle.rows.specs.Outcome.{Outcome, refused, found}
 use Rattle.cell.specs.Read.{Polygon, Cell, planeCell, cornersOf, Accepted}
 use Rattle.clip.specs.Clip.{Cut}
 use Rattle.clip.specs.Code.{Segments}
-use Rattle.clip.specs.View.{cut2}
+use Rattle.clip_plane.specs.View.{cut2}
 use Rattle.clip.specs.declared.Found.{Found}
 use Rattle.plane_cell.specs.PlaneCell.{polygonSegments}
 use Rattle.plane_cell.specs.declared.Cutting as C

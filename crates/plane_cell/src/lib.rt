@@ -4,7 +4,7 @@ ghost use Prim.Native.Nat.{_≤_};
 ghost use lib.ListN.{length};
 ghost use Rattle.vector.specs.View.{unit2, vec2};
 ghost use Rattle.cell.specs.Read.{cell, planeCell, polygonsOf};
-ghost use Rattle.clip.specs.View.{cut2};
+ghost use Rattle.clip_plane.specs.View.{cut2};
 ghost use Rattle.cuts.specs.Cuts.{through};
 ghost use Rattle.cuts.specs.Lines.{GaveLine, lineTold};
 ghost use Rattle.cuts.specs.declared.Way.the-variants as way;
@@ -12,7 +12,7 @@ ghost use Rattle.plane_cell.specs.PlaneCell.{lineThrough, normalBy, plan
 ghost use Rattle.plane_cell.specs.Code.{CanCut, PolygonCut, cutting};
 use cell::Reading;
 use clip::Found;
-use clip::plane::Cut;
+use clip_plane::polygon::Cut;
 use cuts::Line;
 use cuts::Way;
 use vector::Unit2;
@@ -142,7 +142,7 @@ fn line_small(t: u8, conn: &[u64], xs: &[f64], n: usize, cut: Cut, numbers: &mut
     let mut coords = [0.0f64; 8];
     let mut points = [0.0f64; 12];
     cell::copy_plane_cell(t, conn, xs, &mut coords);
-    clip::plane::plane_section_segments(&coords, n, cut, &mut points, numbers)
+    clip_plane::polygon::plane_section_segments(&coords, n, cut, &mut points, numbers)
 }
 
 // Of at most 256.
@@ -154,5 +154,5 @@ fn line_large(t: u8, conn: &[u64], xs: &[f64], n: usize, cut: Cut, numbers: &mut
     let mut coords = [0.0f64; 512];
     let mut points = [0.0f64; 768];
     cell::copy_plane_cell(t, conn, xs, &mut coords);
-    clip::plane::plane_section_segments(&coords, n, cut, &mut points, numbers)
+    clip_plane::polygon::plane_section_segments(&coords, n, cut, &mut points, numbers)
 }

@@ -66,12 +66,12 @@ fn space_segments(
         × (3 * atMost n ≤ length (now points)) × (6 * atMost n ≤ length (now out)) ⌝ }
     ensures { λ r. ⌜ Clips 3 n (now (poly .entry)) (now (placed .entry)) tol (now (out .entry)) r (now (out .exit)) ⌝ }
 {
-    let cut = clip::space::Cut {
+    let cut = clip_space::polygon::Cut {
         origin: point3(placed, 0),
         normal: point3(placed, 1),
         tol: tol,
     };
-    let found = clip::space::plane_section_segments(poly, n, cut, points, out);
+    let found = clip_space::polygon::plane_section_segments(poly, n, cut, points, out);
     found.segments
 }
 
@@ -118,12 +118,12 @@ fn plane_segments(
         × (2 * atMost n ≤ length (now points)) × (4 * atMost n ≤ length (now out)) ⌝ }
     ensures { λ r. ⌜ Clips 2 n (now (poly .entry)) (now (placed .entry)) tol (now (out .entry)) r (now (out .exit)) ⌝ }
 {
-    let cut = clip::plane::Cut {
+    let cut = clip_plane::polygon::Cut {
         origin: point2(placed, 0),
         normal: point2(placed, 1),
         tol: tol,
     };
-    let found = clip::plane::plane_section_segments(poly, n, cut, points, out);
+    let found = clip_plane::polygon::plane_section_segments(poly, n, cut, points, out);
     found.segments
 }
 

@@ -6,7 +6,7 @@ use borrow.Author.Tests.{le-leb, lt-leb}
 use lib.ListN.{length}
 use Rattle.rows.proofs.Outcomes.{test-failed, test-passed}
 use Rattle.cell.specs.Read.{cell}
-use Rattle.clip.specs.View.{cut2}
+use Rattle.clip_plane.specs.View.{cut2}
 use Rattle.cuts.specs.Cuts.{through}
 use Rattle.cuts.proofs.Answers.{line-gave, line-refused}
 use Rattle.cuts.proofs.Cutting.{at-work, cell-refused, corners-told, place-refused, was-accepted}

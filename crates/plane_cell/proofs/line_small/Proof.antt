@@ -1,6 +1,6 @@
 -- `line_small` meets its contract. Assumes nothing.
 use Rattle.cell.specs.Read.{cell}
-use Rattle.clip.specs.View.{cut2}
+use Rattle.clip_plane.specs.View.{cut2}
 use Rattle.cuts.proofs.Answers.{segments-same}
 use Rattle.plane_cell.proofs.Polygons.{copied-segments}
 use borrow.Author.Needs.{needs}

@@ -1,0 +1,2 @@
+// Polygons in the plane, cut by a line.
+pub mod polygon;
