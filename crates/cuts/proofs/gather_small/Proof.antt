@@ -1,4 +1,4 @@
--- `gather_small` meets its contract. Assumes nothing.
+-- `gather_small` meets its contract. Written from gather_fixed's by tools/widths. Assumes nothing.
 use mathlib.Core.Path.{sym}
 use lib.Seq.{length-take-le}
 use Rattle.cell.specs.Read.{cell}

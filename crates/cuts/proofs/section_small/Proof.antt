@@ -1,4 +1,4 @@
--- `section_small` meets its contract. Assumes nothing.
+-- `section_small` meets its contract. Written from section_fixed's by tools/widths. Assumes nothing.
 use native.Mathlib.Omega.{arith}
 use Rattle.vector.specs.View.{frameOf}
 use Rattle.cuts.proofs.Copying.{lent}

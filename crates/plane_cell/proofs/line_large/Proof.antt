@@ -1,4 +1,4 @@
--- `line_large` meets its contract. Assumes nothing.
+-- `line_large` meets its contract. Written from line_small's by tools/widths. Assumes nothing.
 use Rattle.cell.specs.Read.{cell}
 use Rattle.clip_plane.specs.View.{cut2}
 use Rattle.cuts.proofs.Answers.{segments-same}
