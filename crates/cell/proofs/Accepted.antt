@@ -16,7 +16,7 @@ use Rattle.cell.specs.Types.{allow, spaceNodes, shapeOf, shapeIn, shapeN
 use Rattle.cell.specs.Faces.{Face, facesOf, polygonOf}
 use Rattle.cell.specs.Read.{corner, areRows, polygons, Polygon, keptOf, readingTold, Tested, Cell, spaceCell, planeCell}
 use Rattle.cell.specs.Read.{polygonsOf, cornersOf, faceCount, Accepted, Copied, CopiedPolygon}
-use Rattle.cell.specs.Code.{below, gathered, readFaces, cornersTested, facesTested, Listed, Testable}
+use Rattle.cell.specs.Code.{below, gathered, readFaces, cornersTested, Testable}
 use Rattle.cell.specs.Code.{Copies, CopiesFaces, CopiesPolygon, PutsFaces}
 use Rattle.cell.specs.declared.Kept.{Kept}
 use Rattle.cell.specs.declared.Reading.{Reading}
@@ -35,26 +35,17 @@ tells e = rw e (record { tells = refl })
 
 -- a test of the faces tells what their reading would
 told-faces : (w : ℕ) (c : List ℕ) (xs : List Float) (fs : List Face)
-    → facesTested c (length xs / w) fs ≡ andThen (readFaces w c xs fs) (λ ps. found (keptOf ps))
+    → cornersTested c (length xs / w) (flatten fs) ≡ andThen (readFaces w c xs fs) (λ ps. found (length (flatten ps)))
 told-faces w c xs fs = by-test (areRows c (length xs / w) (flatten fs))
   where
-    by-test : (b : Bool) → unless 4 b (found (record { corners = length (flatten fs); faces = length fs }))
-        ≡ andThen (unless 4 b (found (polygons w c xs fs))) (λ ps. found (keptOf ps))
-    by-test true =
-        ap (λ m. found (record { corners = m; faces = length fs })) (polygons-size w c xs fs)
-        ∙ ap (λ f. found (record { corners = length (flatten (polygons w c xs fs)); faces = f })) (polygons-count w c xs fs)
+    by-test : (b : Bool) → unless 4 b (found (length (flatten fs)))
+        ≡ andThen (unless 4 b (found (polygons w c xs fs))) (λ ps. found (length (flatten ps)))
+    by-test true = ap found (polygons-size w c xs fs)
     by-test false = refl
 
 pub faces-told : (w : ℕ) (c : List ℕ) (xs : List Float) (fs : List Face) {o : Outcome (List Polygon)} {r : Reading}
-    → o ≡ readFaces w c xs fs → readingTold r ≡ facesTested c (length xs / w) fs → Tested o r
+    → o ≡ readFaces w c xs fs → readingTold r ≡ cornersTested c (length xs / w) (flatten fs) → Tested o r
 faces-told w c xs fs e h = rw e (record { tells = h ∙ told-faces w c xs fs })
-
--- the positions that were listed are the faces'
-pub faces-listed : (c : List ℕ) (rows : ℕ) (fs : List Face) (m f : ℕ) (corners ends : List ℕ) → Listed fs m f corners ends
-    → cornersTested c rows (take m corners) f ≡ facesTested c rows fs
-faces-listed c rows fs m f corners ends l =
-    let n : f ≡ length fs = sym (length-take-le f ends (l .space)) ∙ ap length (l .places) ∙ length-ends 0 fs in
-    ap (λ ps. cornersTested c rows ps f) (l .positions) ∙ ap (cornersTested c rows (flatten fs)) n
 
 pub testable : (k : SpaceType) (c : List ℕ) → allow (spaceNodes k) (length c) ≡ true → Testable c (facesOf (shapeOf k) c)
 testable k c a = record { few = nodes-few k (length c) a; inside = inside k c a }

@@ -41,13 +41,9 @@ pub record Testable (c : List ℕ) (fs : List Face) : Type 0 where
   pub few : length c ≤ 256
   pub inside : T (below (length c) (flatten fs))
 
--- what is told of f faces whose corners stand at the positions ps: refusal 4, or how many they are
-abbrev pub cornersTested : List ℕ → ℕ → List ℕ → ℕ → Outcome Kept
-cornersTested c rows ps f = unless 4 (areRows c rows ps) (found (record { corners = length ps; faces = f }))
-
--- what is told of the faces fs
-abbrev pub facesTested : List ℕ → ℕ → List Face → Outcome Kept
-facesTested c rows fs = cornersTested c rows (flatten fs) (length fs)
+-- what is told of corners at the positions ps: refusal 4, or how many they are
+abbrev pub cornersTested : List ℕ → ℕ → List ℕ → Outcome ℕ
+cornersTested c rows ps = unless 4 (areRows c rows ps) (found (length ps))
 
 -- ---- the copy
 

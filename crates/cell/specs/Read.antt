@@ -103,14 +103,14 @@ faceCount o = length (polygonsOf o)
 abbrev pub keptOf : List Polygon → Kept
 keptOf ps = record { corners = length (flatten ps); faces = length ps }
 
--- document 01's number and values for each case of the code's answer
-abbrev pub readingTold : R.Reading → Outcome Kept
+-- document 01's number and value for each case of the code's answer
+abbrev pub readingTold : R.Reading → Outcome ℕ
 readingTold (r.Refused k) = refused k
-readingTold (r.Cell m f) = found (record { corners = m; faces = f })
+readingTold (r.Cell m) = found m
 
--- the answer to a test tells what the reading o refuses, or how much is kept of it
+-- the answer to a test tells what the reading o refuses, or how many corners are kept of it
 pub record Tested (o : Outcome (List Polygon)) (answer : R.Reading) : Type 0 where
-  pub tells : readingTold answer ≡ andThen o (λ ps. found (keptOf ps))
+  pub tells : readingTold answer ≡ andThen o (λ ps. found (length (flatten ps)))
 
 -- the polygons ps are written: their corners' coordinates over one slice, and where each ends among the corners over another; k tells how
 -- many there are

@@ -83,16 +83,6 @@ shapeNumbered t = shapeIn (spaceType t)
 
 -- ---- in the plane
 
--- the number of a type
-abbrev pub planeNumber : PlaneType → ℕ
-planeNumber Tri3 = 5
-planeNumber Tri6 = 6
-planeNumber Tri7 = 7
-planeNumber Quad4 = 8
-planeNumber Quad8 = 9
-planeNumber Quad9 = 10
-planeNumber Pgon = 11
-
 -- the type with a number, if it is one of these
 unfoldable pub planeType : ℕ → P.InPlane
 planeType t =

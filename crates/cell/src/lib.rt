@@ -11,7 +11,7 @@ ghost use Rattle.rows.specs.Rows.{over};
 ghost use Rattle.cell.specs.Faces.{stretches, kept, facesOf, polygonOf};
 ghost use Rattle.cell.specs.Read.{areRows, polygons, cell, spaceCell, planeCell, polygonsOf, cornersOf, faceCount};
 ghost use Rattle.cell.specs.Read.{readingTold, Accepted, Copied, CopiedPolygon, Tested};
-ghost use Rattle.cell.specs.Code.{below, gathered, cornersTested, facesTested, Listed, Testable};
+ghost use Rattle.cell.specs.Code.{below, gathered, cornersTested, Listed, Testable};
 ghost use Rattle.cell.specs.Code.{Copies, CopiesFaces, CopiesPolygon, PutsFaces, PutFaces};
 use types::InPlane;
 use types::InSpace;
@@ -19,10 +19,10 @@ use types::PlaneType;
 use types::Shape;
 use types::SpaceType;
 
-// What is read of a cell: the number of a refusal, or how many face corners and faces are kept.
+// What is read of a cell: the number of a refusal, or how many face corners are kept.
 pub enum Reading {
     Refused(u8),
-    Cell { corners: usize, faces: usize },
+    Cell(usize),
 }
 
 // How many face corners and faces are kept.
@@ -31,7 +31,7 @@ pub struct Kept {
     pub faces: usize,
 }
 
-// Refusals 1 to 4 of a cell in space, or how many face corners and faces it has. Writes nothing.
+// Refusals 1 to 4 of a cell in space, or how many face corners it has. Writes nothing.
 pub fn test_space_cell(t: u8, conn: &[u64], xs: &[f64]) -> Reading
     ensures { λ r. ⌜ Tested (spaceCell (cell t (now (conn .entry)) (now (xs .entry)))) r ⌝ }
 {
@@ -65,7 +65,7 @@ pub fn copy_space_cell(
     copy_faces(SpaceType::shape_of(t), conn, xs, out, face_ends)
 }
 
-// Refusals 1 to 4 of a cell in the plane, or how many corners it has, in one polygon. Writes nothing.
+// Refusals 1 to 4 of a cell in the plane, or how many corners it has. Writes nothing.
 pub fn test_plane_cell(t: u8, conn: &[u64], xs: &[f64]) -> Reading
     ensures { λ r. ⌜ Tested (planeCell (cell t (now (conn .entry)) (now (xs .entry)))) r ⌝ }
 {
@@ -91,15 +91,15 @@ pub fn copy_plane_cell(t: u8, conn: &[u64], xs: &[f64], out: &mut [f64])
     copy_polygon(PlaneType::corners_of(t, conn.len()), conn, xs, out)
 }
 
-// Refusal 4, or how many corners and faces a cell of this shape has.
+// Refusal 4, or how many corners the faces of this shape have.
 fn test_faces(s: Shape, conn: &[u64], rows: usize) -> Reading
     requires { ⌜ Testable (now conn) (facesOf s (now conn)) ⌝ }
-    ensures { λ r. ⌜ readingTold r ≡ facesTested (now (conn .entry)) rows (facesOf s (now (conn .entry))) ⌝ }
+    ensures { λ r. ⌜ readingTold r ≡ cornersTested (now (conn .entry)) rows (flatten (facesOf s (now (conn .entry)))) ⌝ }
 {
     match s {
-        Shape::Tet => test_corners(conn, &TET, 4, rows),
-        Shape::Wedge => test_corners(conn, &WEDGE, 5, rows),
-        Shape::Hex => test_corners(conn, &HEX, 6, rows),
+        Shape::Tet => test_corners(conn, &TET, rows),
+        Shape::Wedge => test_corners(conn, &WEDGE, rows),
+        Shape::Hex => test_corners(conn, &HEX, rows),
         Shape::Phed => test_phed(conn, rows),
     }
 }
@@ -107,38 +107,36 @@ fn test_faces(s: Shape, conn: &[u64], rows: usize) -> Reading
 // The same of a polyhedron.
 fn test_phed(conn: &[u64], rows: usize) -> Reading
     requires { ⌜ Testable (now conn) (kept (stretches 0 (now conn))) ⌝ }
-    ensures { λ r. ⌜ readingTold r ≡ facesTested (now (conn .entry)) rows (kept (stretches 0 (now (conn .entry)))) ⌝ }
+    ensures { λ r. ⌜ readingTold r ≡ cornersTested (now (conn .entry)) rows
+        (flatten (kept (stretches 0 (now (conn .entry))))) ⌝ }
 {
     let mut corners = [0u8; 256];
     let mut ends = [0usize; 85];
     let l = list_phed(conn, &mut corners, &mut ends);
     let m = l.corners;
-    test_corners(conn, &corners[..m], l.faces, rows)
+    test_corners(conn, &corners[..m], rows)
 }
 
 // The same of a polygon, whose corners are its first n nodes.
 fn test_polygon(n: usize, conn: &[u64], rows: usize) -> Reading
     requires { ⌜ (n ≤ length (now conn)) × (n ≤ 256) ⌝ }
-    ensures { λ r. ⌜ readingTold r ≡ facesTested (now (conn .entry)) rows (polygonOf n) ⌝ }
+    ensures { λ r. ⌜ readingTold r ≡ cornersTested (now (conn .entry)) rows (flatten (polygonOf n)) ⌝ }
 {
     if n <= 4 {
-        return test_corners(conn, &RING[..n], 1, rows);
+        return test_corners(conn, &RING[..n], rows);
     }
     let mut corners = [0u8; 256];
     list_pgon(n, &mut corners);
-    test_corners(conn, &corners[..n], 1, rows)
+    test_corners(conn, &corners[..n], rows)
 }
 
-// Refusal 4, or how many corners these are, in so many faces.
-fn test_corners(conn: &[u64], corners: &[u8], faces: usize, rows: usize) -> Reading
+// Refusal 4, or how many corners these are.
+fn test_corners(conn: &[u64], corners: &[u8], rows: usize) -> Reading
     requires { ⌜ T (below (length (now conn)) (now corners)) ⌝ }
-    ensures { λ r. ⌜ readingTold r ≡ cornersTested (now (conn .entry)) rows (now (corners .entry)) faces ⌝ }
+    ensures { λ r. ⌜ readingTold r ≡ cornersTested (now (conn .entry)) rows (now (corners .entry)) ⌝ }
 {
     if are_rows(conn, corners, rows) {
-        return Reading::Cell {
-            corners: corners.len(),
-            faces: faces,
-        };
+        return Reading::Cell(corners.len());
     }
     Reading::Refused(4)
 }

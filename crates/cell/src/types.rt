@@ -1,7 +1,7 @@
 // The types of cells: their numbers, node counts, corner counts and shapes.
 ghost use mathlib.Core.Path.{_≡_};
-ghost use Rattle.cell.specs.Types.{allow, shapeNumbered, shapeOf, spaceCorners, spaceNodes, spaceNumber, spaceType};
-ghost use Rattle.cell.specs.Types.{cornersNumbered, planeCorners, planeNodes, planeNumber, planeType};
+ghost use Rattle.cell.specs.Types.{allow, shapeNumbered, shapeOf, spaceNodes, spaceType};
+ghost use Rattle.cell.specs.Types.{cornersNumbered, planeCorners, planeNodes, planeType};
 
 // How many nodes a type has.
 pub enum Nodes {
@@ -62,13 +62,6 @@ impl SpaceType {
 
     pub const PHED: u8 = 18;
 
-    // The corner counts.
-    pub const TET_CORNERS: usize = 4;
-
-    pub const HEX_CORNERS: usize = 8;
-
-    pub const WEDGE_CORNERS: usize = 6;
-
     // The node counts; of a PHED the most entries, separators counted.
     pub const TET4_NODES: usize = 4;
 
@@ -100,21 +93,6 @@ impl SpaceType {
         }
     }
 
-    // The number of a type.
-    pub fn number(self) -> u8
-        ensures { λ r. ⌜ r ≡ spaceNumber self ⌝ }
-    {
-        match self {
-            SpaceType::Tet4 => SpaceType::TET4,
-            SpaceType::Tet10 => SpaceType::TET10,
-            SpaceType::Hex8 => SpaceType::HEX8,
-            SpaceType::Hex21 => SpaceType::HEX21,
-            SpaceType::Wedge6 => SpaceType::WEDGE6,
-            SpaceType::Wedge15 => SpaceType::WEDGE15,
-            SpaceType::Phed => SpaceType::PHED,
-        }
-    }
-
     // Its node count.
     pub fn nodes(self) -> Nodes
         ensures { λ r. ⌜ r ≡ spaceNodes self ⌝ }
@@ -127,21 +105,6 @@ impl SpaceType {
             SpaceType::Wedge6 => Nodes::Exactly(SpaceType::WEDGE6_NODES),
             SpaceType::Wedge15 => Nodes::Exactly(SpaceType::WEDGE15_NODES),
             SpaceType::Phed => Nodes::AtMost(SpaceType::PHED_NODES),
-        }
-    }
-
-    // Its corner count: of n nodes the first so many can be corners.
-    pub fn corners(self, n: usize) -> usize
-        ensures { λ r. ⌜ r ≡ spaceCorners self n ⌝ }
-    {
-        match self {
-            SpaceType::Tet4 => SpaceType::TET_CORNERS,
-            SpaceType::Tet10 => SpaceType::TET_CORNERS,
-            SpaceType::Hex8 => SpaceType::HEX_CORNERS,
-            SpaceType::Hex21 => SpaceType::HEX_CORNERS,
-            SpaceType::Wedge6 => SpaceType::WEDGE_CORNERS,
-            SpaceType::Wedge15 => SpaceType::WEDGE_CORNERS,
-            SpaceType::Phed => n,
         }
     }
 
@@ -237,21 +200,6 @@ impl PlaneType {
             PlaneType::QUAD9 => InPlane::Known(PlaneType::Quad9),
             PlaneType::PGON => InPlane::Known(PlaneType::Pgon),
             _ => InPlane::Unknown,
-        }
-    }
-
-    // The number of a type.
-    pub fn number(self) -> u8
-        ensures { λ r. ⌜ r ≡ planeNumber self ⌝ }
-    {
-        match self {
-            PlaneType::Tri3 => PlaneType::TRI3,
-            PlaneType::Tri6 => PlaneType::TRI6,
-            PlaneType::Tri7 => PlaneType::TRI7,
-            PlaneType::Quad4 => PlaneType::QUAD4,
-            PlaneType::Quad8 => PlaneType::QUAD8,
-            PlaneType::Quad9 => PlaneType::QUAD9,
-            PlaneType::Pgon => PlaneType::PGON,
         }
     }
 

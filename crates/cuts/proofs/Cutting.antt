@@ -10,9 +10,8 @@ use lib.ListN.{length}
 use Rattle.rows.specs.Outcome.{Outcome, refused, found, andThen, unless, Sound}
 use Rattle.rows.proofs.Outcomes.{sound-then, never-both}
 use Rattle.cell.specs.Types.{allow}
-use Rattle.cell.specs.Read.{Polygon, Typed, untyped, typed, areRows, polygons, readAs, polygonsOf, cornersOf, Accepted, keptOf, readingTold}
+use Rattle.cell.specs.Read.{Polygon, Typed, untyped, typed, areRows, polygons, readAs, polygonsOf, cornersOf, Accepted, readingTold}
 use Rattle.cell.specs.Read.{Cell, spaceCell, Tested}
-use Rattle.cell.specs.declared.Kept.{Kept}
 use Rattle.cell.specs.declared.Reading.{Reading}
 use Rattle.cell.specs.declared.Reading.the-variants as R
 use Rattle.cuts.specs.Cuts.{cutCell}
@@ -20,7 +19,7 @@ use Rattle.cuts.proofs.Sizes.{any-within}
 
 -- ---- which of the two the answer to a test tells
 
-refused-only : (o : Outcome (List Polygon)) (k : ℕ) → refused k ≡ andThen o (λ ps. found (keptOf ps)) → o ≡ refused k
+refused-only : (o : Outcome (List Polygon)) (k : ℕ) → refused k ≡ andThen o (λ ps. found (length (flatten ps))) → o ≡ refused k
 refused-only (refused j) k e = let z : k ≡ j = cc in ap refused (sym z)
 refused-only (found ps) k e = absurd (never-both e)
 
@@ -29,9 +28,9 @@ record IsCell (o : Outcome (List Polygon)) (m : ℕ) : Type 0 where
   pub is : Accepted o
   pub corners : m ≡ cornersOf o
 
-cell-only : (o : Outcome (List Polygon)) (k : Kept) → found k ≡ andThen o (λ ps. found (keptOf ps)) → IsCell o (k .corners)
-cell-only (refused j) k e = absurd (never-both (sym e))
-cell-only (found ps) k e = let z : k ≡ keptOf ps = cc in record { is = refl; corners = ap (λ x. x .corners) z }
+cell-only : (o : Outcome (List Polygon)) (m : ℕ) → found m ≡ andThen o (λ ps. found (length (flatten ps))) → IsCell o m
+cell-only (refused j) m e = absurd (never-both (sym e))
+cell-only (found ps) m e = record { is = refl; corners = cc }
 
 -- ---- the steps of an entry
 
@@ -44,9 +43,9 @@ module _ {o : Outcome (List Polygon)} {r : Reading} (h : Tested o r) where
       → cutCell o by work ≡ refused k
   cell-refused by work e = ap (λ i. cutCell i by work) (was-refused e)
 
-  module _ {m f : ℕ} (e : r ≡ R.Cell m f) where
+  module _ {m : ℕ} (e : r ≡ R.Cell m) where
     accepted : IsCell o m
-    accepted = cell-only o (record { corners = m; faces = f }) (ap readingTold (sym e) ∙ h .tells)
+    accepted = cell-only o m (ap readingTold (sym e) ∙ h .tells)
 
     pub was-accepted : Accepted o
     was-accepted = accepted .is
@@ -67,7 +66,7 @@ module _ {o : Outcome (List Polygon)} {r : Reading} (h : Tested o r) where
           ∙ ap (λ k. work k (polygonsOf o) b) (sym corners-told) ∙ w
 
 -- m is small
-pub corners-few : (k : Cell) {r : Reading} → Tested (spaceCell k) r → {m f : ℕ} → r ≡ R.Cell m f → m ≤ 256
+pub corners-few : (k : Cell) {r : Reading} → Tested (spaceCell k) r → {m : ℕ} → r ≡ R.Cell m → m ≤ 256
 corners-few k h e = omega (arith, corners-told h e, any-within k (was-accepted h e) .corners)
 
 -- ---- what a cut can answer

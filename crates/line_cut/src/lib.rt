@@ -48,11 +48,7 @@ pub fn slice_line_3d(
 {
     match cell::test_space_cell(t, conn, xs) {
         Reading::Refused(k) => Line::Refused(k),
-        Reading::Cell { corners, faces: _ } => match cuts::place(
-            Way::Direction,
-            origin,
-            direction,
-        ) {
+        Reading::Cell(corners) => match cuts::place(Way::Direction, origin, direction) {
             Placing::Refused(k) => Line::Refused(k),
             Placing::On(plane) => {
                 if 14 * corners > numbers.len() {
@@ -204,7 +200,13 @@ fn cut_loop(
         r (now (numbers .exit)) ⌝ }
 {
     loop_points(points, p, nodes, polygon);
-    let found = clip_plane::polygon::plane_section_segments(polygon, nodes.len(), axis(tol), clipped, flat);
+    let found = clip_plane::polygon::plane_section_segments(
+        polygon,
+        nodes.len(),
+        axis(tol),
+        clipped,
+        flat,
+    );
     Found {
         segments: put_on_line(flat, found.segments, plane, numbers, from),
     }

@@ -73,7 +73,7 @@ fn cut_cell(
 {
     match cell::test_plane_cell(t, conn, xs) {
         Reading::Refused(k) => Line::Refused(k),
-        Reading::Cell { corners, faces: _ } => match place(by, origin, vector, tol) {
+        Reading::Cell(corners) => match place(by, origin, vector, tol) {
             Cutting::Refused(k) => Line::Refused(k),
             Cutting::By(cut) => {
                 if 6 * corners > numbers.len() {

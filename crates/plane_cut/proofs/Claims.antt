@@ -34,7 +34,7 @@ use Rattle.plane_cut.specs.PlaneCut.{AlikeByPlane, PlaneClaim, PlaneSect
 use Rattle.plane_cut.specs.PlaneCut.{mostSegments, planeCut, sectionIn}
 
 -- what the work on a cell that was tested needs is there
-pub can-section : (k : Cell) {r : Reading} (h : Tested (spaceCell k) r) {m f : ℕ} (e : r ≡ R.Cell m f) (numbers : List Float) (nodes ends :
+pub can-section : (k : Cell) {r : Reading} (h : Tested (spaceCell k) r) {m : ℕ} (e : r ≡ R.Cell m) (numbers : List Float) (nodes ends :
     List ℕ)
     → room (6 * m) (3 * m / 2) (m / 2) (lengths (buffers numbers nodes ends)) ≡ true → CanSection k numbers nodes ends
 can-section k h {m} e numbers nodes ends w =

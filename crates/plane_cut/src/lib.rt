@@ -30,7 +30,7 @@ pub fn section_cell_by_plane(
 {
     match cell::test_space_cell(t, conn, xs) {
         Reading::Refused(k) => Section::Refused(k),
-        Reading::Cell { corners, faces: _ } => match cuts::place(Way::Normal, origin, normal) {
+        Reading::Cell(corners) => match cuts::place(Way::Normal, origin, normal) {
             Placing::Refused(k) => Section::Refused(k),
             Placing::On(plane) => {
                 if !room(

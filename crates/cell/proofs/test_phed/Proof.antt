@@ -4,7 +4,6 @@ use lib.Dec.{T}
 use lib.ListN.{length}
 use lib.Seq.{length-take-le}
 use Rattle.cell.specs.Code.{below, cornersTested}
-use Rattle.cell.proofs.Accepted.{faces-listed}
 use borrow.Author.Needs.{needs}
 use Rattle.cell.proofs.test_phed.Statement.{statement}
 use Rattle.cell.proofs.test_phed.Tie as tie
@@ -22,7 +21,7 @@ test-corners-requires : tie.Need-test-corners-requires
 test-corners-requires c κs = subst (λ l. T (below (length (c .before .before .before .before .before .args .conn .now)) l)) (sym (c .before .list-phed .ensures .positions)) (c .before .before .before .before .before .pre .inside)
 
 returns : tie.Need-returns
-returns c = c .test-corners .ensures ∙ faces-listed _ _ _ _ _ _ _ (c .before .before .list-phed .ensures)
+returns c = c .test-corners .ensures ∙ ap (cornersTested (c .before .before .before .before .before .before .args .conn .now) (c .before .before .before .before .before .before .args .rows)) (c .before .before .list-phed .ensures .positions)
 
 pub test-phed-spec : {M : Type 1} → statement M
 test-phed-spec =

@@ -20,7 +20,7 @@ test-corners-requires c κs = listed-below _ (c .before .before .before .args .n
 
 returns : tie.Need-returns
 unfolding from
-returns c = c .test-corners .ensures ∙ ap (λ ps. cornersTested (c .before .before .before .before .args .conn .now) (c .before .before .before .before .args .rows) ps 1) (polygon-taken (c .before .before .before .before .args .n) 4 _ refl (c .before .before .if1 .taken))
+returns c = c .test-corners .ensures ∙ ap (cornersTested (c .before .before .before .before .args .conn .now) (c .before .before .before .before .args .rows)) (polygon-taken (c .before .before .before .before .args .n) 4 _ refl (c .before .before .if1 .taken))
 
 list-pgon-requires : tie.Need-list-pgon-requires
 list-pgon-requires c κs = search needs
@@ -35,7 +35,7 @@ test-corners-requires-2 : tie.Need-test-corners-requires-2
 test-corners-requires-2 c κs = listed-below _ (c .before .before .before .before .before .args .n) _ (c .before .list-pgon .ensures .1) (c .before .before .before .before .before .pre .0)
 
 returns-2 : tie.Need-returns-2
-returns-2 c = c .test-corners2 .ensures ∙ ap (λ ps. cornersTested (c .before .before .before .before .before .before .args .conn .now) (c .before .before .before .before .before .before .args .rows) ps 1) (c .before .before .list-pgon .ensures .1)
+returns-2 c = c .test-corners2 .ensures ∙ ap (cornersTested (c .before .before .before .before .before .before .args .conn .now) (c .before .before .before .before .before .before .args .rows)) (c .before .before .list-pgon .ensures .1)
 
 pub test-polygon-spec : {M : Type 1} → statement M
 test-polygon-spec =
