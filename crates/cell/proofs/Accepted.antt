@@ -5,18 +5,16 @@ use mathlib.Core.List.{List, map, flatten}
 use mathlib.Core.Bool.{Bool, true, false}
 use Prim.Native.Nat.{ℕ, _*_, _/_, _≤_}
 use native.Mathlib.Omega.{arith}
-use lib.Dec.{T}
 use lib.Ieee.{Float}
-use lib.ListN.{length, take}
-use lib.Seq.{length-take-le}
+use lib.ListN.{length}
 use Rattle.rows.specs.Rows.{endsFrom, over}
 use Rattle.rows.specs.Outcome.{Outcome, refused, found, andThen, unless}
 use Rattle.rows.proofs.Lists.{flatten-map, ends-map, length-ends}
 use Rattle.cell.specs.Types.{allow, spaceNodes, shapeOf, shapeIn, shapeNumbered, planeCorners, cornersTyped, cornersNumbered}
 use Rattle.cell.specs.Faces.{Face, facesOf, polygonOf}
-use Rattle.cell.specs.Read.{corner, areRows, polygons, Polygon, keptOf, readingTold, Tested, Cell, spaceCell, planeCell}
-use Rattle.cell.specs.Read.{polygonsOf, cornersOf, faceCount, Accepted, Copied, CopiedPolygon}
-use Rattle.cell.specs.Code.{below, gathered, readFaces, cornersTested, Testable}
+use Rattle.cell.specs.Read.{corner, areRows, polygons, Polygon, readingTold, Tested, Cell, spaceCell, planeCell}
+use Rattle.cell.specs.Read.{polygonsOf, cornersOf, faceCount, Accepted, Copied}
+use Rattle.cell.specs.Code.{gathered, readFaces, cornersTested, Testable}
 use Rattle.cell.specs.Code.{Copies, CopiesFaces, CopiesPolygon, PutsFaces}
 use Rattle.cell.specs.declared.Kept.{Kept}
 use Rattle.cell.specs.declared.Reading.{Reading}
@@ -25,7 +23,7 @@ use Rattle.cell.specs.declared.types.SpaceType.{SpaceType}
 use Rattle.cell.proofs.Answers.{polygons-size, polygons-count, space-read, plane-read}
 use Rattle.cell.proofs.Bounds.{corners-within, nodes-few, plane-few}
 use Rattle.cell.proofs.Inside.{inside}
-use Rattle.cell.proofs.Polygon.{length-polygon, polygon-below}
+use Rattle.cell.proofs.Polygon.{polygon-below}
 
 -- ---- the test
 

@@ -10,7 +10,7 @@ use lib.ListN.{length, length-append}
 use Rattle.rows.specs.Outcome.{found}
 use Rattle.cell.specs.Types.{allow, spaceNumber, spaceType, spaceNodes, shapeOf, planeNodes, planeCorners}
 use Rattle.cell.specs.Faces.{Face, separator, onto, stretches, kept, facesOf, polygonOf}
-use Rattle.cell.specs.Read.{Polygon, Cell, spaceCell, planeCell}
+use Rattle.cell.specs.Read.{Polygon, Cell}
 use Rattle.cell.specs.Claims.{SpaceBounds, SpaceBounded, PlaneBounded}
 use Rattle.cell.specs.declared.types.SpaceType.{SpaceType}
 use Rattle.cell.specs.declared.types.SpaceType.the-variants.{Tet4, Tet10, Hex8, Hex21, Wedge6, Wedge15, Phed}
@@ -18,7 +18,7 @@ use Rattle.cell.specs.declared.types.PlaneType.{PlaneType}
 use Rattle.cell.specs.declared.types.PlaneType.the-variants.{Tri3, Tri6, Tri7, Quad4, Quad8, Quad9, Pgon}
 use Rattle.cell.specs.declared.types.InSpace as S
 use Rattle.cell.specs.declared.types.InSpace.the-variants as s
-use Rattle.cell.proofs.Answers.{polygons-size, polygons-count, SpaceRead, space-read, PlaneRead, plane-read}
+use Rattle.cell.proofs.Answers.{polygons-size, polygons-count, SpaceRead, space-read, plane-read}
 use Rattle.cell.proofs.Polygon.{length-polygon}
 
 -- ---- the faces of a polyhedron

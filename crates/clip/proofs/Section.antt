@@ -9,11 +9,9 @@ use lib.Ieee.{Float, le}
 use lib.ListN.{length}
 use borrow.Author.Tests.{lt-ltb, le-ltb}
 use Rattle.vector.specs.Number.{f0}
-use Rattle.vector.specs.Vector.{Vector}
 use Rattle.vector.specs.Rows.{Seg, rows}
 use Rattle.vector.proofs.Rows.{rows-length, segs-length}
 use Rattle.clip.specs.declared.Side.{Side}
-use Rattle.clip.specs.declared.Side.the-variants.{Neither}
 use Rattle.clip.specs.Clip.{Cut, bySide, clipped, edges, keptSide, planeSectionSegments, pushSegments, sectionOn, tolSquared, withoutClosing}
 use Rattle.clip.specs.Clear.{Each, Higher, Lower}
 use Rattle.clip.specs.Cell.{atMost}

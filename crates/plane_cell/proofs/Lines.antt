@@ -1,13 +1,11 @@
 -- The line that cuts a cell in the plane: its refusals. Assumes nothing.
-use mathlib.Core.Path.{_≡_, refl, ap, _∙_}
-use mathlib.Core.List.{List}
+use mathlib.Core.Path.{_≡_, ap, _∙_}
 use native.Mathlib.Omega.{arith}
 use lib.Ieee.{Float}
 use lib.ListN.{length}
 use Rattle.rows.specs.Outcome.{Sound}
 use Rattle.vector.specs.Vector.{Vector, Direction, along, nowhere}
 use Rattle.vector.specs.Rows.{row}
-use Rattle.clip.specs.Clip.{Cut}
 use Rattle.cuts.specs.Cuts.{Through}
 use Rattle.cuts.specs.declared.Way.{Way}
 use Rattle.cuts.proofs.Placed.{both-fit, sound-placed, whole-row}

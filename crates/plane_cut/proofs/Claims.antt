@@ -10,7 +10,7 @@ use Rattle.rows.specs.Outcome.{found}
 use Rattle.rows.proofs.Outcomes.{sound-unless}
 use Rattle.vector.specs.Vector.{Frame, framed, planeOf}
 use Rattle.cell.specs.Types.{shapeOf, spaceType}
-use Rattle.cell.specs.Read.{Polygon, Cell, spaceCell, typedInSpace, cornersOf, Tested}
+use Rattle.cell.specs.Read.{Polygon, Cell, spaceCell, typedInSpace, Tested}
 use Rattle.cell.specs.Claims.{CornersKept}
 use Rattle.cell.specs.declared.types.Shape.{Shape}
 use Rattle.cell.specs.declared.types.Shape.the-variants.{Tet, Wedge, Hex, Phed}

@@ -1,5 +1,5 @@
 -- `copy_polygon` meets its contract: the positions lent are those of the definition's polygon. Assumes nothing.
-use mathlib.Core.Path.{refl, sym, ap, _∙_}
+use mathlib.Core.Path.{refl, sym, _∙_}
 use lib.Seq.{length-take-le}
 use Rattle.cell.specs.Faces.{from, polygonOf}
 use Rattle.cell.proofs.Accepted.{copies-at, corners-copied}

@@ -1,5 +1,5 @@
 -- `test_phed` meets its contract. Assumes nothing.
-use mathlib.Core.Path.{_≡_, sym, ap, _∙_, subst}
+use mathlib.Core.Path.{sym, ap, _∙_, subst}
 use lib.Dec.{T}
 use lib.ListN.{length}
 use lib.Seq.{length-take-le}

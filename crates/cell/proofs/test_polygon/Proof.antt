@@ -1,7 +1,7 @@
 -- `test_polygon` meets its contract: the positions lent are those of the definition's polygon. Assumes nothing.
 use mathlib.Core.Path.{refl, sym, ap, _∙_}
 use lib.Seq.{length-take-le}
-use Rattle.cell.specs.Faces.{from, polygonOf}
+use Rattle.cell.specs.Faces.{from}
 use Rattle.cell.specs.Code.{cornersTested}
 use Rattle.cell.proofs.Polygon.{listed-below, polygon-taken}
 use borrow.Author.Needs.{needs}
