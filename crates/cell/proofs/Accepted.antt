@@ -81,7 +81,7 @@ module _ (c : List ℕ) (xs : List Float) (fs : List Face) (ps es : List ℕ) (p
 module _ (k : Cell) (a : Accepted (spaceCell k)) where
   pub copies-space : (out : List Float) (ends : List ℕ) → 3 * cornersOf (spaceCell k) ≤ length out
       → faceCount (spaceCell k) ≤ length ends
-      → CopiesFaces (k .conn) (k .coords) (facesOf (shapeNumbered (k .number)) (k .conn)) out ends
+      → CopiesFaces (k .conn) (k .coords) (facesOf (shapeNumbered (k .cell-type)) (k .conn)) out ends
   copies-space out ends h l =
       let q = space-read k (polygonsOf (spaceCell k)) a in
       let fs = facesOf (shapeOf (q .kind)) (k .conn) in
@@ -101,14 +101,14 @@ module _ (k : Cell) (a : Accepted (spaceCell k)) where
         space = omega arith;
       })
 
-  pub space-polygons : polygons 3 (k .conn) (k .coords) (facesOf (shapeNumbered (k .number)) (k .conn)) ≡ polygonsOf (spaceCell k)
+  pub space-polygons : polygons 3 (k .conn) (k .coords) (facesOf (shapeNumbered (k .cell-type)) (k .conn)) ≡ polygonsOf (spaceCell k)
   space-polygons =
       let q = space-read k (polygonsOf (spaceCell k)) a in
       ap (λ o. polygons 3 (k .conn) (k .coords) (facesOf (shapeIn o) (k .conn))) (q .known) ∙ sym (q .passed .are)
 
 module _ (k : Cell) (a : Accepted (planeCell k)) where
   pub copies-plane : (out : List Float) → 2 * cornersOf (planeCell k) ≤ length out
-      → CopiesPolygon (k .conn) (k .coords) (cornersNumbered (k .number) (length (k .conn))) out
+      → CopiesPolygon (k .conn) (k .coords) (cornersNumbered (k .cell-type) (length (k .conn))) out
   copies-plane out h =
       let q = plane-read k (polygonsOf (planeCell k)) a in
       let n = planeCorners (q .kind) (length (k .conn)) in
@@ -127,7 +127,7 @@ module _ (k : Cell) (a : Accepted (planeCell k)) where
       })
 
   pub plane-polygons
-      : polygons 2 (k .conn) (k .coords) (polygonOf (cornersNumbered (k .number) (length (k .conn)))) ≡ polygonsOf (planeCell k)
+      : polygons 2 (k .conn) (k .coords) (polygonOf (cornersNumbered (k .cell-type) (length (k .conn)))) ≡ polygonsOf (planeCell k)
   plane-polygons =
       let q = plane-read k (polygonsOf (planeCell k)) a in
       ap (λ o. polygons 2 (k .conn) (k .coords) (polygonOf (cornersTyped o (length (k .conn))))) (q .known) ∙ sym (q .passed .are)

@@ -84,10 +84,10 @@ plane-mid-sides-free t =
 
 pub alike-in-space : AlikeInSpace
 alike-in-space k k′ ps ps′ r r′ z =
-    let e = ap (λ t. readAs 3 (typedInSpace (spaceType t)) (k′ .conn) (k′ .coords)) (z .number) in
-    alike 3 (typedInSpace (spaceType (k .number))) (k .conn) (k′ .conn) (k .coords) (k′ .coords) ps ps′ r (e ∙ r′) (z .corners) ∙ e
+    let e = ap (λ t. readAs 3 (typedInSpace (spaceType t)) (k′ .conn) (k′ .coords)) (z .cell-type) in
+    alike 3 (typedInSpace (spaceType (k .cell-type))) (k .conn) (k′ .conn) (k .coords) (k′ .coords) ps ps′ r (e ∙ r′) (z .corners) ∙ e
 
 pub alike-in-plane : AlikeInPlane
 alike-in-plane k k′ ps ps′ r r′ z =
-    let e = ap (λ t. readAs 2 (typedInPlane (planeType t)) (k′ .conn) (k′ .coords)) (z .number) in
-    alike 2 (typedInPlane (planeType (k .number))) (k .conn) (k′ .conn) (k .coords) (k′ .coords) ps ps′ r (e ∙ r′) (z .corners) ∙ e
+    let e = ap (λ t. readAs 2 (typedInPlane (planeType t)) (k′ .conn) (k′ .coords)) (z .cell-type) in
+    alike 2 (typedInPlane (planeType (k .cell-type))) (k .conn) (k′ .conn) (k .coords) (k′ .coords) ps ps′ r (e ∙ r′) (z .corners) ∙ e

@@ -69,14 +69,14 @@ passed w n faces c xs ps r =
 -- a cell in space whose polygons are ps: its type is known, and its faces are that type's
 pub record SpaceRead (k : Cell) (ps : List Polygon) : Type 0 where
   pub kind : SpaceType
-  pub known : spaceType (k .number) ≡ s.Known kind
+  pub known : spaceType (k .cell-type) ≡ s.Known kind
   pub passed : Passed 3 (spaceNodes kind) (facesOf (shapeOf kind)) (k .conn) (k .coords) ps
 
 pub space-read : (k : Cell) (ps : List Polygon) → spaceCell k ≡ found ps → SpaceRead k ps
 unfolding readAs
-space-read k ps r = by-type (spaceType (k .number)) refl
+space-read k ps r = by-type (spaceType (k .cell-type)) refl
   where
-    by-type : (o : S.InSpace) → spaceType (k .number) ≡ o → SpaceRead k ps
+    by-type : (o : S.InSpace) → spaceType (k .cell-type) ≡ o → SpaceRead k ps
     by-type s.Unknown e = absurd (never-both (ap (λ o. readAs 3 (typedInSpace o) (k .conn) (k .coords)) (sym e) ∙ r))
     by-type (s.Known t) e =
         record {
@@ -88,14 +88,14 @@ space-read k ps r = by-type (spaceType (k .number)) refl
 -- and one in the plane: it is one polygon of the corners that its type has
 pub record PlaneRead (k : Cell) (ps : List Polygon) : Type 0 where
   pub kind : PlaneType
-  pub known : planeType (k .number) ≡ p.Known kind
+  pub known : planeType (k .cell-type) ≡ p.Known kind
   pub passed : Passed 2 (planeNodes kind) (λ c. polygonOf (planeCorners kind (length c))) (k .conn) (k .coords) ps
 
 pub plane-read : (k : Cell) (ps : List Polygon) → planeCell k ≡ found ps → PlaneRead k ps
 unfolding readAs
-plane-read k ps r = by-type (planeType (k .number)) refl
+plane-read k ps r = by-type (planeType (k .cell-type)) refl
   where
-    by-type : (o : P.InPlane) → planeType (k .number) ≡ o → PlaneRead k ps
+    by-type : (o : P.InPlane) → planeType (k .cell-type) ≡ o → PlaneRead k ps
     by-type p.Unknown e = absurd (never-both (ap (λ o. readAs 2 (typedInPlane o) (k .conn) (k .coords)) (sym e) ∙ r))
     by-type (p.Known t) e =
         record {

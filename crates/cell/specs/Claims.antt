@@ -35,13 +35,13 @@ pub record SpaceBounds (s : Shape) (m f : ℕ) : Type 0 where
 
 abbrev pub SpaceBounded : Type 0
 SpaceBounded =
-    (k : Cell) (t : SpaceType) (ps : List Polygon) → spaceType (k .number) ≡ s.Known t → spaceCell k ≡ found ps
+    (k : Cell) (t : SpaceType) (ps : List Polygon) → spaceType (k .cell-type) ≡ s.Known t → spaceCell k ≡ found ps
     → SpaceBounds (shapeOf t) (length (flatten ps)) (length ps)
 
 -- an accepted cell in the plane has the corners of its type in one polygon, at most 256
 pub record PlaneBounds (k : Cell) (ps : List Polygon) : Type 0 where
   pub kind : PlaneType
-  pub known : planeType (k .number) ≡ p.Known kind
+  pub known : planeType (k .cell-type) ≡ p.Known kind
   pub corners : length (flatten ps) ≡ planeCorners kind (length (k .conn))
   pub most : length (flatten ps) ≤ 256
   pub faces : length ps ≡ 1
@@ -93,12 +93,12 @@ PlaneMidSidesFree = (t : PlaneType) → MidSidesFree 2 (typedInPlane (p.Known t)
 
 -- equal types, and the same corner coordinates face by face, in space and in the plane
 pub record SameInSpace (k k′ : Cell) : Type 0 where
-  pub number : k .number ≡ k′ .number
-  pub corners : SameCorners 3 (typedInSpace (spaceType (k .number))) (k .conn) (k′ .conn) (k .coords) (k′ .coords)
+  pub cell-type : k .cell-type ≡ k′ .cell-type
+  pub corners : SameCorners 3 (typedInSpace (spaceType (k .cell-type))) (k .conn) (k′ .conn) (k .coords) (k′ .coords)
 
 pub record SameInPlane (k k′ : Cell) : Type 0 where
-  pub number : k .number ≡ k′ .number
-  pub corners : SameCorners 2 (typedInPlane (planeType (k .number))) (k .conn) (k′ .conn) (k .coords) (k′ .coords)
+  pub cell-type : k .cell-type ≡ k′ .cell-type
+  pub corners : SameCorners 2 (typedInPlane (planeType (k .cell-type))) (k .conn) (k′ .conn) (k .coords) (k′ .coords)
 
 -- so accepted cells are read alike, whatever their mid-side nodes hold
 abbrev pub AlikeInSpace : Type 0

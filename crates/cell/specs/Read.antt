@@ -65,19 +65,19 @@ typedInPlane (p.Known k) = typed (planeNodes k) (λ c. polygonOf (planeCorners k
 
 -- a cell as it is handed over: a type number, node numbers, and coordinates
 pub record Cell : Type 0 where
-  pub number : ℕ
+  pub cell-type : ℕ
   pub conn : List ℕ
   pub coords : List Float
 
 abbrev pub cell : ℕ → List ℕ → List Float → Cell
-cell t c xs = record { number = t; conn = c; coords = xs }
+cell t c xs = record { cell-type = t; conn = c; coords = xs }
 
 -- the reading of a cell in space, and of one in the plane
 abbrev pub spaceCell : Cell → Outcome (List Polygon)
-spaceCell k = readAs 3 (typedInSpace (spaceType (k .number))) (k .conn) (k .coords)
+spaceCell k = readAs 3 (typedInSpace (spaceType (k .cell-type))) (k .conn) (k .coords)
 
 abbrev pub planeCell : Cell → Outcome (List Polygon)
-planeCell k = readAs 2 (typedInPlane (planeType (k .number))) (k .conn) (k .coords)
+planeCell k = readAs 2 (typedInPlane (planeType (k .cell-type))) (k .conn) (k .coords)
 
 -- ---- a reading that refuses nothing
 

@@ -32,63 +32,68 @@ pub struct Kept {
 }
 
 // Refusals 1 to 4 of a cell in space, or how many face corners it has. Writes nothing.
-pub fn test_space_cell(t: u8, conn: &[u64], xs: &[f64]) -> Reading
-    ensures { λ r. ⌜ Tested (spaceCell (cell t (now (conn .entry)) (now (xs .entry)))) r ⌝ }
+pub fn test_space_cell(cell_type: u8, conn: &[u64], coords: &[f64]) -> Reading
+    ensures { λ r. ⌜ Tested (spaceCell (cell «cell_type» (now (conn .entry)) (now (coords .entry)))) r ⌝ }
 {
-    let InSpace::Known(k) = SpaceType::of_number(t) else {
+    let InSpace::Known(k) = SpaceType::of_number(cell_type) else {
         return Reading::Refused(1);
     };
     if !k.nodes().allow(conn.len()) {
         return Reading::Refused(2);
     }
-    if xs.len() % 3 != 0 {
+    if coords.len() % 3 != 0 {
         return Reading::Refused(3);
     }
-    test_faces(k.shape(), conn, xs.len() / 3)
+    test_faces(k.shape(), conn, coords.len() / 3)
 }
 
 // The corners' coordinates of an accepted cell in space, written over the start of `out` face by face, and where each
 // face ends among the corners, written over the start of `face_ends`.
 pub fn copy_space_cell(
-    t: u8,
+    cell_type: u8,
     conn: &[u64],
-    xs: &[f64],
+    coords: &[f64],
     out: &mut [f64],
     face_ends: &mut [usize],
 ) -> Kept
-    requires { ⌜ Accepted (spaceCell (cell t (now conn) (now xs)))
-        × (3 * cornersOf (spaceCell (cell t (now conn) (now xs))) ≤ length (now out))
-        × (faceCount (spaceCell (cell t (now conn) (now xs))) ≤ length (now «face_ends»)) ⌝ }
-    ensures { λ r. ⌜ Copied (polygonsOf (spaceCell (cell t (now (conn .entry)) (now (xs .entry))))) r
+    requires { ⌜ Accepted (spaceCell (cell «cell_type» (now conn) (now coords)))
+        × (3 * cornersOf (spaceCell (cell «cell_type» (now conn) (now coords))) ≤ length (now out))
+        × (faceCount (spaceCell (cell «cell_type» (now conn) (now coords))) ≤ length (now «face_ends»)) ⌝ }
+    ensures { λ r. ⌜ Copied (polygonsOf (spaceCell (cell «cell_type» (now (conn .entry)) (now (coords .entry))))) r
         (now (out .entry)) (now (out .exit)) (now («face_ends» .entry)) (now («face_ends» .exit)) ⌝ }
 {
-    copy_faces(SpaceType::shape_of(t), conn, xs, out, face_ends)
+    copy_faces(SpaceType::shape_of(cell_type), conn, coords, out, face_ends)
 }
 
 // Refusals 1 to 4 of a cell in the plane, or how many corners it has. Writes nothing.
-pub fn test_plane_cell(t: u8, conn: &[u64], xs: &[f64]) -> Reading
-    ensures { λ r. ⌜ Tested (planeCell (cell t (now (conn .entry)) (now (xs .entry)))) r ⌝ }
+pub fn test_plane_cell(cell_type: u8, conn: &[u64], coords: &[f64]) -> Reading
+    ensures { λ r. ⌜ Tested (planeCell (cell «cell_type» (now (conn .entry)) (now (coords .entry)))) r ⌝ }
 {
-    let InPlane::Known(k) = PlaneType::of_number(t) else {
+    let InPlane::Known(k) = PlaneType::of_number(cell_type) else {
         return Reading::Refused(1);
     };
     if !k.nodes().allow(conn.len()) {
         return Reading::Refused(2);
     }
-    if xs.len() % 2 != 0 {
+    if coords.len() % 2 != 0 {
         return Reading::Refused(3);
     }
-    test_polygon(k.corners(conn.len()), conn, xs.len() / 2)
+    test_polygon(k.corners(conn.len()), conn, coords.len() / 2)
 }
 
 // The corners' coordinates of an accepted cell in the plane, written over the start of `out`.
-pub fn copy_plane_cell(t: u8, conn: &[u64], xs: &[f64], out: &mut [f64])
-    requires { ⌜ Accepted (planeCell (cell t (now conn) (now xs)))
-        × (2 * cornersOf (planeCell (cell t (now conn) (now xs))) ≤ length (now out)) ⌝ }
-    ensures { λ _. ⌜ CopiedPolygon (polygonsOf (planeCell (cell t (now (conn .entry)) (now (xs .entry)))))
+pub fn copy_plane_cell(cell_type: u8, conn: &[u64], coords: &[f64], out: &mut [f64])
+    requires { ⌜ Accepted (planeCell (cell «cell_type» (now conn) (now coords)))
+        × (2 * cornersOf (planeCell (cell «cell_type» (now conn) (now coords))) ≤ length (now out)) ⌝ }
+    ensures { λ _. ⌜ CopiedPolygon (polygonsOf (planeCell (cell «cell_type» (now (conn .entry)) (now (coords .entry)))))
         (now (out .entry)) (now (out .exit)) ⌝ }
 {
-    copy_polygon(PlaneType::corners_of(t, conn.len()), conn, xs, out)
+    copy_polygon(
+        PlaneType::corners_of(cell_type, conn.len()),
+        conn,
+        coords,
+        out,
+    )
 }
 
 // Refusal 4, or how many corners the faces of this shape have.
@@ -142,23 +147,29 @@ fn test_corners(conn: &[u64], corners: &[u8], rows: usize) -> Reading
 }
 
 // The corners of a cell of this shape, all of which are rows.
-fn copy_faces(s: Shape, conn: &[u64], xs: &[f64], out: &mut [f64], face_ends: &mut [usize]) -> Kept
-    requires { ⌜ CopiesFaces (now conn) (now xs) (facesOf s (now conn)) (now out) (now «face_ends») ⌝ }
-    ensures { λ r. ⌜ Copied (polygons 3 (now (conn .entry)) (now (xs .entry)) (facesOf s (now (conn .entry)))) r
+fn copy_faces(
+    s: Shape,
+    conn: &[u64],
+    coords: &[f64],
+    out: &mut [f64],
+    face_ends: &mut [usize],
+) -> Kept
+    requires { ⌜ CopiesFaces (now conn) (now coords) (facesOf s (now conn)) (now out) (now «face_ends») ⌝ }
+    ensures { λ r. ⌜ Copied (polygons 3 (now (conn .entry)) (now (coords .entry)) (facesOf s (now (conn .entry)))) r
         (now (out .entry)) (now (out .exit)) (now («face_ends» .entry)) (now («face_ends» .exit)) ⌝ }
 {
     match s {
-        Shape::Tet => put_faces(&TET, &TET_ENDS, conn, xs, out, face_ends),
-        Shape::Wedge => put_faces(&WEDGE, &WEDGE_ENDS, conn, xs, out, face_ends),
-        Shape::Hex => put_faces(&HEX, &HEX_ENDS, conn, xs, out, face_ends),
-        Shape::Phed => copy_phed(conn, xs, out, face_ends),
+        Shape::Tet => put_faces(&TET, &TET_ENDS, conn, coords, out, face_ends),
+        Shape::Wedge => put_faces(&WEDGE, &WEDGE_ENDS, conn, coords, out, face_ends),
+        Shape::Hex => put_faces(&HEX, &HEX_ENDS, conn, coords, out, face_ends),
+        Shape::Phed => copy_phed(conn, coords, out, face_ends),
     }
 }
 
 // The same of a polyhedron.
-fn copy_phed(conn: &[u64], xs: &[f64], out: &mut [f64], face_ends: &mut [usize]) -> Kept
-    requires { ⌜ CopiesFaces (now conn) (now xs) (kept (stretches 0 (now conn))) (now out) (now «face_ends») ⌝ }
-    ensures { λ r. ⌜ Copied (polygons 3 (now (conn .entry)) (now (xs .entry)) (kept (stretches 0 (now (conn .entry))))) r
+fn copy_phed(conn: &[u64], coords: &[f64], out: &mut [f64], face_ends: &mut [usize]) -> Kept
+    requires { ⌜ CopiesFaces (now conn) (now coords) (kept (stretches 0 (now conn))) (now out) (now «face_ends») ⌝ }
+    ensures { λ r. ⌜ Copied (polygons 3 (now (conn .entry)) (now (coords .entry)) (kept (stretches 0 (now (conn .entry))))) r
         (now (out .entry)) (now (out .exit)) (now («face_ends» .entry)) (now («face_ends» .exit)) ⌝ }
 {
     let mut corners = [0u8; 256];
@@ -166,21 +177,21 @@ fn copy_phed(conn: &[u64], xs: &[f64], out: &mut [f64], face_ends: &mut [usize])
     let l = list_phed(conn, &mut corners, &mut ends);
     let m = l.corners;
     let f = l.faces;
-    put_faces(&corners[..m], &ends[..f], conn, xs, out, face_ends)
+    put_faces(&corners[..m], &ends[..f], conn, coords, out, face_ends)
 }
 
 // The same of a polygon, whose corners are its first n nodes.
-fn copy_polygon(n: usize, conn: &[u64], xs: &[f64], out: &mut [f64])
-    requires { ⌜ CopiesPolygon (now conn) (now xs) n (now out) ⌝ }
-    ensures { λ _. ⌜ CopiedPolygon (polygons 2 (now (conn .entry)) (now (xs .entry)) (polygonOf n)) (now (out .entry))
+fn copy_polygon(n: usize, conn: &[u64], coords: &[f64], out: &mut [f64])
+    requires { ⌜ CopiesPolygon (now conn) (now coords) n (now out) ⌝ }
+    ensures { λ _. ⌜ CopiedPolygon (polygons 2 (now (conn .entry)) (now (coords .entry)) (polygonOf n)) (now (out .entry))
         (now (out .exit)) ⌝ }
 {
     if n <= 4 {
-        return copy_rows(2, conn, xs, &RING[..n], out);
+        return copy_rows(2, conn, coords, &RING[..n], out);
     }
     let mut corners = [0u8; 256];
     list_pgon(n, &mut corners);
-    copy_rows(2, conn, xs, &corners[..n], out)
+    copy_rows(2, conn, coords, &corners[..n], out)
 }
 
 // The corners at these positions, and the faces that end here among them.
@@ -188,15 +199,15 @@ fn put_faces(
     corners: &[u8],
     ends: &[usize],
     conn: &[u64],
-    xs: &[f64],
+    coords: &[f64],
     out: &mut [f64],
     face_ends: &mut [usize],
 ) -> Kept
-    requires { ⌜ PutsFaces (now corners) (now ends) (now conn) (now xs) (now out) (now «face_ends») ⌝ }
-    ensures { λ r. ⌜ PutFaces (now (corners .entry)) (now (ends .entry)) (now (conn .entry)) (now (xs .entry)) r
+    requires { ⌜ PutsFaces (now corners) (now ends) (now conn) (now coords) (now out) (now «face_ends») ⌝ }
+    ensures { λ r. ⌜ PutFaces (now (corners .entry)) (now (ends .entry)) (now (conn .entry)) (now (coords .entry)) r
         (now (out .entry)) (now (out .exit)) (now («face_ends» .entry)) (now («face_ends» .exit)) ⌝ }
 {
-    copy_rows(3, conn, xs, corners, out);
+    copy_rows(3, conn, coords, corners, out);
     put(face_ends, ends);
     Kept {
         corners: corners.len(),
@@ -325,16 +336,16 @@ fn are_rows(conn: &[u64], corners: &[u8], rows: usize) -> bool
 }
 
 // The corners' rows, one after the other.
-fn copy_rows(w: usize, conn: &[u64], xs: &[f64], corners: &[u8], out: &mut [f64])
-    requires { ⌜ Copies w (now conn) (now xs) (now corners) (now out) ⌝ }
-    ensures { λ _. ⌜ now (out .exit) ≡ over (gathered w (now (conn .entry)) (now (xs .entry)) (now (corners .entry)))
+fn copy_rows(w: usize, conn: &[u64], coords: &[f64], corners: &[u8], out: &mut [f64])
+    requires { ⌜ Copies w (now conn) (now coords) (now corners) (now out) ⌝ }
+    ensures { λ _. ⌜ now (out .exit) ≡ over (gathered w (now (conn .entry)) (now (coords .entry)) (now (corners .entry)))
         (now (out .entry)) ⌝ }
 {
     let mut j = 0;
     while j < corners.len() {
         let a = w * node(conn, corners[j]);
         let e = a + w;
-        copy(out, w * j, &xs[a..e]);
+        copy(out, w * j, &coords[a..e]);
         j += 1;
     }
 }

@@ -78,10 +78,10 @@ impl SpaceType {
     pub const PHED_NODES: usize = 256;
 
     // The type with a number.
-    pub fn of_number(t: u8) -> InSpace
-        ensures { λ r. ⌜ r ≡ spaceType t ⌝ }
+    pub fn of_number(cell_type: u8) -> InSpace
+        ensures { λ r. ⌜ r ≡ spaceType «cell_type» ⌝ }
     {
-        match t {
+        match cell_type {
             SpaceType::TET4 => InSpace::Known(SpaceType::Tet4),
             SpaceType::TET10 => InSpace::Known(SpaceType::Tet10),
             SpaceType::HEX8 => InSpace::Known(SpaceType::Hex8),
@@ -109,10 +109,10 @@ impl SpaceType {
     }
 
     // The shape of the type with a number; of a number that has none a polyhedron, whose faces any connectivity has.
-    pub fn shape_of(t: u8) -> Shape
-        ensures { λ r. ⌜ r ≡ shapeNumbered t ⌝ }
+    pub fn shape_of(cell_type: u8) -> Shape
+        ensures { λ r. ⌜ r ≡ shapeNumbered «cell_type» ⌝ }
     {
-        let InSpace::Known(k) = SpaceType::of_number(t) else {
+        let InSpace::Known(k) = SpaceType::of_number(cell_type) else {
             return Shape::Phed;
         };
         k.shape()
@@ -188,10 +188,10 @@ impl PlaneType {
     pub const PGON_NODES: usize = 256;
 
     // The type with a number.
-    pub fn of_number(t: u8) -> InPlane
-        ensures { λ r. ⌜ r ≡ planeType t ⌝ }
+    pub fn of_number(cell_type: u8) -> InPlane
+        ensures { λ r. ⌜ r ≡ planeType «cell_type» ⌝ }
     {
-        match t {
+        match cell_type {
             PlaneType::TRI3 => InPlane::Known(PlaneType::Tri3),
             PlaneType::TRI6 => InPlane::Known(PlaneType::Tri6),
             PlaneType::TRI7 => InPlane::Known(PlaneType::Tri7),
@@ -219,10 +219,10 @@ impl PlaneType {
     }
 
     // The corner count of the type with a number; of a number that has none all n nodes.
-    pub fn corners_of(t: u8, n: usize) -> usize
-        ensures { λ r. ⌜ r ≡ cornersNumbered t n ⌝ }
+    pub fn corners_of(cell_type: u8, n: usize) -> usize
+        ensures { λ r. ⌜ r ≡ cornersNumbered «cell_type» n ⌝ }
     {
-        let InPlane::Known(k) = PlaneType::of_number(t) else {
+        let InPlane::Known(k) = PlaneType::of_number(cell_type) else {
             return n;
         };
         k.corners(n)

@@ -46,7 +46,7 @@ pub struct Tolerance {
 // A space cell cut by a plane.
 #[no_mangle]
 pub extern "C" fn cicelybeam_plane(
-    kind: u8,
+    cell_type: u8,
     conn: &[u64],
     coords: &[f64],
     origin: &[f64],
@@ -57,13 +57,13 @@ pub extern "C" fn cicelybeam_plane(
     ends: &mut [u32],
 ) -> Section
     ensures { λ r. ⌜ Gave
-        (planeCut (cell kind (now (conn .entry)) (now (coords .entry))) (through (now (origin .entry)) (now (normal .entry))) tol
+        (planeCut (cell «cell_type» (now (conn .entry)) (now (coords .entry))) (through (now (origin .entry)) (now (normal .entry))) tol
         (lengths (buffers (now (numbers .entry)) (now (nodes .entry)) (now (ends .entry)))))
         (toldIn r) (buffers (now (numbers .entry)) (now (nodes .entry)) (now (ends .entry)))
         (buffers (now (numbers .exit)) (now (nodes .exit)) (now (ends .exit))) ⌝ }
 {
     told_section(plane_cut::section_cell_by_plane(
-        kind,
+        cell_type,
         conn,
         coords,
         origin,
@@ -78,7 +78,7 @@ pub extern "C" fn cicelybeam_plane(
 // A space cell cut by a line.
 #[no_mangle]
 pub extern "C" fn cicelybeam_line_in_space(
-    kind: u8,
+    cell_type: u8,
     conn: &[u64],
     coords: &[f64],
     origin: &[f64],
@@ -87,17 +87,17 @@ pub extern "C" fn cicelybeam_line_in_space(
     numbers: &mut [f64],
 ) -> Line
     ensures { λ r. ⌜ GaveLine
-        (lineCut (cell kind (now (conn .entry)) (now (coords .entry)))
+        (lineCut (cell «cell_type» (now (conn .entry)) (now (coords .entry)))
         (through (now (origin .entry)) (now (direction .entry))) tol (length (now (numbers .entry))))
         (toldLineIn r) (now (numbers .entry)) (now (numbers .exit)) ⌝ }
 {
-    told_line(line_cut::slice_line_3d(kind, conn, coords, origin, direction, tol, numbers))
+    told_line(line_cut::slice_line_3d(cell_type, conn, coords, origin, direction, tol, numbers))
 }
 
 // A plane cell cut by a line that its normal gives.
 #[no_mangle]
 pub extern "C" fn cicelybeam_plane_cell_by_normal(
-    kind: u8,
+    cell_type: u8,
     conn: &[u64],
     coords: &[f64],
     origin: &[f64],
@@ -106,17 +106,17 @@ pub extern "C" fn cicelybeam_plane_cell_by_normal(
     numbers: &mut [f64],
 ) -> Line
     ensures { λ r. ⌜ GaveLine
-        (planeCellCut way.Normal (cell kind (now (conn .entry)) (now (coords .entry)))
+        (planeCellCut way.Normal (cell «cell_type» (now (conn .entry)) (now (coords .entry)))
         (through (now (origin .entry)) (now (normal .entry))) tol (length (now (numbers .entry))))
         (toldLineIn r) (now (numbers .entry)) (now (numbers .exit)) ⌝ }
 {
-    told_line(plane_cell::slice_2d(kind, conn, coords, origin, normal, tol, numbers))
+    told_line(plane_cell::slice_2d(cell_type, conn, coords, origin, normal, tol, numbers))
 }
 
 // A plane cell cut by a line that its direction gives.
 #[no_mangle]
 pub extern "C" fn cicelybeam_plane_cell_by_direction(
-    kind: u8,
+    cell_type: u8,
     conn: &[u64],
     coords: &[f64],
     origin: &[f64],
@@ -125,11 +125,11 @@ pub extern "C" fn cicelybeam_plane_cell_by_direction(
     numbers: &mut [f64],
 ) -> Line
     ensures { λ r. ⌜ GaveLine
-        (planeCellCut way.Direction (cell kind (now (conn .entry)) (now (coords .entry)))
+        (planeCellCut way.Direction (cell «cell_type» (now (conn .entry)) (now (coords .entry)))
         (through (now (origin .entry)) (now (direction .entry))) tol (length (now (numbers .entry))))
         (toldLineIn r) (now (numbers .entry)) (now (numbers .exit)) ⌝ }
 {
-    told_line(plane_cell::slice_line(kind, conn, coords, origin, direction, tol, numbers))
+    told_line(plane_cell::slice_line(cell_type, conn, coords, origin, direction, tol, numbers))
 }
 
 // Stitching alone.

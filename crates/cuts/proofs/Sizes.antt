@@ -193,15 +193,15 @@ module _ (k : Cell) (a : Accepted (spaceCell k)) where
   read : SpaceRead k ps
   read = space-read k ps a
 
-  number-is : k .number ≡ spaceNumber (read .kind)
-  number-is = space-number (k .number) (read .kind) (read .known)
+  number-is : k .cell-type ≡ spaceNumber (read .kind)
+  number-is = space-number (k .cell-type) (read .kind) (read .known)
 
   -- the three tiers
-  pub fixed-within : (k .number ≡ 18 → ⊥) → CellWithin 24 6 4 k
+  pub fixed-within : (k .cell-type ≡ 18 → ⊥) → CellWithin 24 6 4 k
   fixed-within h =
       subst (Within 24 6 4) (sym (read .passed .are)) (fixed-faces (k .conn) (k .coords) (read .kind) (λ q. h (number-is ∙ q)))
 
-  pub phed-within : (m f : ℕ) → k .number ≡ 18 → length (k .conn) ≤ m → m / 3 ≤ f → CellWithin m f m k
+  pub phed-within : (m f : ℕ) → k .cell-type ≡ 18 → length (k .conn) ≤ m → m / 3 ≤ f → CellWithin m f m k
   phed-within m f e h l =
       let fs = facesIn (shapeOf (read .kind)) (k .conn) in
       let n : length (flatten fs) ≡ length (flatten ps)

@@ -63,72 +63,72 @@ fn plane_by(way: Way, origin: Vec3, vector: Vec3) -> Placed
 // Scratch comes in three tiers, a function each, so that small cells do not pay for large ones: fixed types have at most
 // 24 face corners, four a face; small polyhedra at most 88 entries; and others 256.
 pub fn gather_cell(
-    t: u8,
+    cell_type: u8,
     conn: &[u64],
-    xs: &[f64],
+    coords: &[f64],
     plane: Plane,
     tol: f64,
     out: &mut [f64],
 ) -> Found
-    requires { ⌜ CanGather (cell t (now conn) (now xs)) (now out) ⌝ }
+    requires { ⌜ CanGather (cell «cell_type» (now conn) (now coords)) (now out) ⌝ }
     ensures { λ r. ⌜ CellCut (cutBy (frameOf plane) tol) (frameOf plane)
-        (polygonsOf (spaceCell (cell t (now (conn .entry)) (now (xs .entry))))) (now (out .entry)) r (now (out .exit)) ⌝ }
+        (polygonsOf (spaceCell (cell «cell_type» (now (conn .entry)) (now (coords .entry))))) (now (out .entry)) r (now (out .exit)) ⌝ }
 {
-    if t != SpaceType::PHED {
-        return gather_fixed(t, conn, xs, plane, tol, out);
+    if cell_type != SpaceType::PHED {
+        return gather_fixed(cell_type, conn, coords, plane, tol, out);
     }
     if conn.len() <= 88 {
-        return gather_small(t, conn, xs, plane, tol, out);
+        return gather_small(cell_type, conn, coords, plane, tol, out);
     }
-    gather_large(t, conn, xs, plane, tol, out)
+    gather_large(cell_type, conn, coords, plane, tol, out)
 }
 
 // The section of an accepted cell by a plane: its segments, stitched.
 pub fn section_cell(
-    t: u8,
+    cell_type: u8,
     conn: &[u64],
-    xs: &[f64],
+    coords: &[f64],
     plane: Plane,
     tol: f64,
     numbers: &mut [f64],
     nodes: &mut [u32],
     ends: &mut [u32],
 ) -> Sectioned
-    requires { ⌜ CanSection (cell t (now conn) (now xs)) (now numbers) (now nodes) (now ends) ⌝ }
+    requires { ⌜ CanSection (cell «cell_type» (now conn) (now coords)) (now numbers) (now nodes) (now ends) ⌝ }
     ensures { λ r. ⌜ SectionGiven (frameOf plane) tol
-        (polygonsOf (spaceCell (cell t (now (conn .entry)) (now (xs .entry))))) r
+        (polygonsOf (spaceCell (cell «cell_type» (now (conn .entry)) (now (coords .entry))))) r
         (buffers (now (numbers .entry)) (now (nodes .entry)) (now (ends .entry)))
         (buffers (now (numbers .exit)) (now (nodes .exit)) (now (ends .exit))) ⌝ }
 {
-    if t != SpaceType::PHED {
-        return section_fixed(t, conn, xs, plane, tol, numbers, nodes, ends);
+    if cell_type != SpaceType::PHED {
+        return section_fixed(cell_type, conn, coords, plane, tol, numbers, nodes, ends);
     }
     if conn.len() <= 88 {
-        return section_small(t, conn, xs, plane, tol, numbers, nodes, ends);
+        return section_small(cell_type, conn, coords, plane, tol, numbers, nodes, ends);
     }
-    section_large(t, conn, xs, plane, tol, numbers, nodes, ends)
+    section_large(cell_type, conn, coords, plane, tol, numbers, nodes, ends)
 }
 
 // Of any cell.
 pub fn section_large(
-    t: u8,
+    cell_type: u8,
     conn: &[u64],
-    xs: &[f64],
+    coords: &[f64],
     plane: Plane,
     tol: f64,
     numbers: &mut [f64],
     nodes: &mut [u32],
     ends: &mut [u32],
 ) -> Sectioned
-    requires { ⌜ CanSection (cell t (now conn) (now xs)) (now numbers) (now nodes) (now ends)
-        × CellWithin 256 85 256 (cell t (now conn) (now xs)) ⌝ }
+    requires { ⌜ CanSection (cell «cell_type» (now conn) (now coords)) (now numbers) (now nodes) (now ends)
+        × CellWithin 256 85 256 (cell «cell_type» (now conn) (now coords)) ⌝ }
     ensures { λ r. ⌜ SectionGiven (frameOf plane) tol
-        (polygonsOf (spaceCell (cell t (now (conn .entry)) (now (xs .entry))))) r
+        (polygonsOf (spaceCell (cell «cell_type» (now (conn .entry)) (now (coords .entry))))) r
         (buffers (now (numbers .entry)) (now (nodes .entry)) (now (ends .entry)))
         (buffers (now (numbers .exit)) (now (nodes .exit)) (now (ends .exit))) ⌝ }
 {
     let mut segments = [0.0f64; 1536];
-    let found = gather_large(t, conn, xs, plane, tol, &mut segments);
+    let found = gather_large(cell_type, conn, coords, plane, tol, &mut segments);
     Sectioned {
         stitched: stitch::stitch_segments(&segments, found.segments, tol, numbers, nodes, ends),
     }
@@ -136,24 +136,24 @@ pub fn section_large(
 
 // Of a small polyhedron.
 fn section_small(
-    t: u8,
+    cell_type: u8,
     conn: &[u64],
-    xs: &[f64],
+    coords: &[f64],
     plane: Plane,
     tol: f64,
     numbers: &mut [f64],
     nodes: &mut [u32],
     ends: &mut [u32],
 ) -> Sectioned
-    requires { ⌜ CanSection (cell t (now conn) (now xs)) (now numbers) (now nodes) (now ends)
-        × CellWithin 88 29 88 (cell t (now conn) (now xs)) ⌝ }
+    requires { ⌜ CanSection (cell «cell_type» (now conn) (now coords)) (now numbers) (now nodes) (now ends)
+        × CellWithin 88 29 88 (cell «cell_type» (now conn) (now coords)) ⌝ }
     ensures { λ r. ⌜ SectionGiven (frameOf plane) tol
-        (polygonsOf (spaceCell (cell t (now (conn .entry)) (now (xs .entry))))) r
+        (polygonsOf (spaceCell (cell «cell_type» (now (conn .entry)) (now (coords .entry))))) r
         (buffers (now (numbers .entry)) (now (nodes .entry)) (now (ends .entry)))
         (buffers (now (numbers .exit)) (now (nodes .exit)) (now (ends .exit))) ⌝ }
 {
     let mut segments = [0.0f64; 528];
-    let found = gather_small(t, conn, xs, plane, tol, &mut segments);
+    let found = gather_small(cell_type, conn, coords, plane, tol, &mut segments);
     Sectioned {
         stitched: stitch::stitch_segments(&segments, found.segments, tol, numbers, nodes, ends),
     }
@@ -161,44 +161,51 @@ fn section_small(
 
 // Of a cell of every type but polyhedra.
 pub fn section_fixed(
-    t: u8,
+    cell_type: u8,
     conn: &[u64],
-    xs: &[f64],
+    coords: &[f64],
     plane: Plane,
     tol: f64,
     numbers: &mut [f64],
     nodes: &mut [u32],
     ends: &mut [u32],
 ) -> Sectioned
-    requires { ⌜ CanSection (cell t (now conn) (now xs)) (now numbers) (now nodes) (now ends)
-        × CellWithin 24 6 4 (cell t (now conn) (now xs)) ⌝ }
+    requires { ⌜ CanSection (cell «cell_type» (now conn) (now coords)) (now numbers) (now nodes) (now ends)
+        × CellWithin 24 6 4 (cell «cell_type» (now conn) (now coords)) ⌝ }
     ensures { λ r. ⌜ SectionGiven (frameOf plane) tol
-        (polygonsOf (spaceCell (cell t (now (conn .entry)) (now (xs .entry))))) r
+        (polygonsOf (spaceCell (cell «cell_type» (now (conn .entry)) (now (coords .entry))))) r
         (buffers (now (numbers .entry)) (now (nodes .entry)) (now (ends .entry)))
         (buffers (now (numbers .exit)) (now (nodes .exit)) (now (ends .exit))) ⌝ }
 {
     let mut segments = [0.0f64; 144];
-    let found = gather_fixed(t, conn, xs, plane, tol, &mut segments);
+    let found = gather_fixed(cell_type, conn, coords, plane, tol, &mut segments);
     Sectioned {
         stitched: stitch::stitch_segments(&segments, found.segments, tol, numbers, nodes, ends),
     }
 }
 
 // Of any cell.
-fn gather_large(t: u8, conn: &[u64], xs: &[f64], plane: Plane, tol: f64, out: &mut [f64]) -> Found
-    requires { ⌜ CanGather (cell t (now conn) (now xs)) (now out) × CellWithin 256 85 256 (cell t (now conn) (now xs)) ⌝ }
+fn gather_large(
+    cell_type: u8,
+    conn: &[u64],
+    coords: &[f64],
+    plane: Plane,
+    tol: f64,
+    out: &mut [f64],
+) -> Found
+    requires { ⌜ CanGather (cell «cell_type» (now conn) (now coords)) (now out) × CellWithin 256 85 256 (cell «cell_type» (now conn) (now coords)) ⌝ }
     ensures { λ r. ⌜ CellCut (cutBy (frameOf plane) tol) (frameOf plane)
-        (polygonsOf (spaceCell (cell t (now (conn .entry)) (now (xs .entry))))) (now (out .entry)) r (now (out .exit)) ⌝ }
+        (polygonsOf (spaceCell (cell «cell_type» (now (conn .entry)) (now (coords .entry))))) (now (out .entry)) r (now (out .exit)) ⌝ }
 {
-    let mut coords = [0.0f64; 768];
+    let mut corners = [0.0f64; 768];
     let mut face_ends = [0usize; 85];
     let mut points = [0.0f64; 1152];
     let mut space = [0.0f64; 2304];
-    let k = cell::copy_space_cell(t, conn, xs, &mut coords, &mut face_ends);
+    let k = cell::copy_space_cell(cell_type, conn, coords, &mut corners, &mut face_ends);
     let m = k.corners;
     let f = k.faces;
     clip_space::cell_segments(
-        &coords,
+        &corners,
         &face_ends[..f],
         m,
         plane,
@@ -210,20 +217,27 @@ fn gather_large(t: u8, conn: &[u64], xs: &[f64], plane: Plane, tol: f64, out: &m
 }
 
 // Of a small polyhedron.
-fn gather_small(t: u8, conn: &[u64], xs: &[f64], plane: Plane, tol: f64, out: &mut [f64]) -> Found
-    requires { ⌜ CanGather (cell t (now conn) (now xs)) (now out) × CellWithin 88 29 88 (cell t (now conn) (now xs)) ⌝ }
+fn gather_small(
+    cell_type: u8,
+    conn: &[u64],
+    coords: &[f64],
+    plane: Plane,
+    tol: f64,
+    out: &mut [f64],
+) -> Found
+    requires { ⌜ CanGather (cell «cell_type» (now conn) (now coords)) (now out) × CellWithin 88 29 88 (cell «cell_type» (now conn) (now coords)) ⌝ }
     ensures { λ r. ⌜ CellCut (cutBy (frameOf plane) tol) (frameOf plane)
-        (polygonsOf (spaceCell (cell t (now (conn .entry)) (now (xs .entry))))) (now (out .entry)) r (now (out .exit)) ⌝ }
+        (polygonsOf (spaceCell (cell «cell_type» (now (conn .entry)) (now (coords .entry))))) (now (out .entry)) r (now (out .exit)) ⌝ }
 {
-    let mut coords = [0.0f64; 264];
+    let mut corners = [0.0f64; 264];
     let mut face_ends = [0usize; 29];
     let mut points = [0.0f64; 396];
     let mut space = [0.0f64; 792];
-    let k = cell::copy_space_cell(t, conn, xs, &mut coords, &mut face_ends);
+    let k = cell::copy_space_cell(cell_type, conn, coords, &mut corners, &mut face_ends);
     let m = k.corners;
     let f = k.faces;
     clip_space::cell_segments(
-        &coords,
+        &corners,
         &face_ends[..f],
         m,
         plane,
@@ -235,20 +249,27 @@ fn gather_small(t: u8, conn: &[u64], xs: &[f64], plane: Plane, tol: f64, out: &m
 }
 
 // Of a cell of every type but polyhedra.
-fn gather_fixed(t: u8, conn: &[u64], xs: &[f64], plane: Plane, tol: f64, out: &mut [f64]) -> Found
-    requires { ⌜ CanGather (cell t (now conn) (now xs)) (now out) × CellWithin 24 6 4 (cell t (now conn) (now xs)) ⌝ }
+fn gather_fixed(
+    cell_type: u8,
+    conn: &[u64],
+    coords: &[f64],
+    plane: Plane,
+    tol: f64,
+    out: &mut [f64],
+) -> Found
+    requires { ⌜ CanGather (cell «cell_type» (now conn) (now coords)) (now out) × CellWithin 24 6 4 (cell «cell_type» (now conn) (now coords)) ⌝ }
     ensures { λ r. ⌜ CellCut (cutBy (frameOf plane) tol) (frameOf plane)
-        (polygonsOf (spaceCell (cell t (now (conn .entry)) (now (xs .entry))))) (now (out .entry)) r (now (out .exit)) ⌝ }
+        (polygonsOf (spaceCell (cell «cell_type» (now (conn .entry)) (now (coords .entry))))) (now (out .entry)) r (now (out .exit)) ⌝ }
 {
-    let mut coords = [0.0f64; 72];
+    let mut corners = [0.0f64; 72];
     let mut face_ends = [0usize; 6];
     let mut points = [0.0f64; 18];
     let mut space = [0.0f64; 36];
-    let k = cell::copy_space_cell(t, conn, xs, &mut coords, &mut face_ends);
+    let k = cell::copy_space_cell(cell_type, conn, coords, &mut corners, &mut face_ends);
     let m = k.corners;
     let f = k.faces;
     clip_space::cell_segments(
-        &coords,
+        &corners,
         &face_ends[..f],
         m,
         plane,

@@ -23,7 +23,7 @@ use Rattle.line_cut.proofs.Sections.{line-bound}
 pub line-sound : LineSound
 line-sound k g tol a =
     let P : List Seg → Type 0 = λ ss. length ss ≤ 576 in
-    cut-sound P (λ f. lineOf (g .origin) (g .vector) ≡ framed f) 3 (typedInSpace (spaceType (k .number))) (k .conn) (k .coords)
+    cut-sound P (λ f. lineOf (g .origin) (g .vector) ≡ framed f) 3 (typedInSpace (spaceType (k .cell-type))) (k .conn) (k .coords)
     (placeIn Direction g) (lineIn tol a) (place-sound Direction g)
     (λ ps r f e.
     sound-unless 1 7 P 7 (leb (14 * length (flatten ps)) a) (found (lineOfSection f tol (sectionOf f tol ps))) (omega arith) (omega arith)

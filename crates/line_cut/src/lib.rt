@@ -33,20 +33,20 @@ use vector::Vec3;
 // The cell is cut by a plane that contains the line, whose in-plane basis makes the line y = 0, and the loops of
 // that section are cut by it.
 pub fn slice_line_3d(
-    t: u8,
+    cell_type: u8,
     conn: &[u64],
-    xs: &[f64],
+    coords: &[f64],
     origin: &[f64],
     direction: &[f64],
     tol: f64,
     numbers: &mut [f64],
 ) -> Line
     ensures { λ r. ⌜ GaveLine
-        (lineCut (cell t (now (conn .entry)) (now (xs .entry)))
+        (lineCut (cell «cell_type» (now (conn .entry)) (now (coords .entry)))
         (through (now (origin .entry)) (now (direction .entry))) tol (length (now (numbers .entry))))
         (lineTold r) (now (numbers .entry)) (now (numbers .exit)) ⌝ }
 {
-    match cell::test_space_cell(t, conn, xs) {
+    match cell::test_space_cell(cell_type, conn, coords) {
         Reading::Refused(k) => Line::Refused(k),
         Reading::Cell(corners) => match cuts::place(Way::Direction, origin, direction) {
             Placing::Refused(k) => Line::Refused(k),
@@ -54,31 +54,45 @@ pub fn slice_line_3d(
                 if 14 * corners > numbers.len() {
                     return Line::Refused(7);
                 }
-                Line::Cut(line_cell(t, conn, xs, plane, tol, numbers))
+                Line::Cut(line_cell(cell_type, conn, coords, plane, tol, numbers))
             }
         },
     }
 }
 
 // The cut of an accepted cell by the line y = 0 of a plane.
-fn line_cell(t: u8, conn: &[u64], xs: &[f64], plane: Plane, tol: f64, numbers: &mut [f64]) -> Found
-    requires { ⌜ CanLine (cell t (now conn) (now xs)) (now numbers) ⌝ }
+fn line_cell(
+    cell_type: u8,
+    conn: &[u64],
+    coords: &[f64],
+    plane: Plane,
+    tol: f64,
+    numbers: &mut [f64],
+) -> Found
+    requires { ⌜ CanLine (cell «cell_type» (now conn) (now coords)) (now numbers) ⌝ }
     ensures { λ r. ⌜ LineGiven (frameOf plane) tol
-        (polygonsOf (spaceCell (cell t (now (conn .entry)) (now (xs .entry))))) (now (numbers .entry)) r
+        (polygonsOf (spaceCell (cell «cell_type» (now (conn .entry)) (now (coords .entry))))) (now (numbers .entry)) r
         (now (numbers .exit)) ⌝ }
 {
-    if t != SpaceType::PHED {
-        return line_fixed(t, conn, xs, plane, tol, numbers);
+    if cell_type != SpaceType::PHED {
+        return line_fixed(cell_type, conn, coords, plane, tol, numbers);
     }
-    line_large(t, conn, xs, plane, tol, numbers)
+    line_large(cell_type, conn, coords, plane, tol, numbers)
 }
 
 // The section of any cell by the plane, and each of its loops cut by y = 0.
-fn line_large(t: u8, conn: &[u64], xs: &[f64], plane: Plane, tol: f64, numbers: &mut [f64]) -> Found
-    requires { ⌜ CanLine (cell t (now conn) (now xs)) (now numbers)
-        × CellWithin 256 85 256 (cell t (now conn) (now xs)) ⌝ }
+fn line_large(
+    cell_type: u8,
+    conn: &[u64],
+    coords: &[f64],
+    plane: Plane,
+    tol: f64,
+    numbers: &mut [f64],
+) -> Found
+    requires { ⌜ CanLine (cell «cell_type» (now conn) (now coords)) (now numbers)
+        × CellWithin 256 85 256 (cell «cell_type» (now conn) (now coords)) ⌝ }
     ensures { λ r. ⌜ LineGiven (frameOf plane) tol
-        (polygonsOf (spaceCell (cell t (now (conn .entry)) (now (xs .entry))))) (now (numbers .entry)) r
+        (polygonsOf (spaceCell (cell «cell_type» (now (conn .entry)) (now (coords .entry))))) (now (numbers .entry)) r
         (now (numbers .exit)) ⌝ }
 {
     let mut points = [0.0f64; 1536];
@@ -87,7 +101,16 @@ fn line_large(t: u8, conn: &[u64], xs: &[f64], plane: Plane, tol: f64, numbers: 
     let mut polygon = [0.0f64; 768];
     let mut clipped = [0.0f64; 1152];
     let mut flat = [0.0f64; 2304];
-    let section = cuts::section_large(t, conn, xs, plane, tol, &mut points, &mut nodes, &mut ends);
+    let section = cuts::section_large(
+        cell_type,
+        conn,
+        coords,
+        plane,
+        tol,
+        &mut points,
+        &mut nodes,
+        &mut ends,
+    );
     let s = section.stitched;
     let n = s.nodes;
     let f = s.loops;
@@ -106,10 +129,17 @@ fn line_large(t: u8, conn: &[u64], xs: &[f64], plane: Plane, tol: f64, numbers: 
 }
 
 // The same of a cell of every type but polyhedra.
-fn line_fixed(t: u8, conn: &[u64], xs: &[f64], plane: Plane, tol: f64, numbers: &mut [f64]) -> Found
-    requires { ⌜ CanLine (cell t (now conn) (now xs)) (now numbers) × CellWithin 24 6 4 (cell t (now conn) (now xs)) ⌝ }
+fn line_fixed(
+    cell_type: u8,
+    conn: &[u64],
+    coords: &[f64],
+    plane: Plane,
+    tol: f64,
+    numbers: &mut [f64],
+) -> Found
+    requires { ⌜ CanLine (cell «cell_type» (now conn) (now coords)) (now numbers) × CellWithin 24 6 4 (cell «cell_type» (now conn) (now coords)) ⌝ }
     ensures { λ r. ⌜ LineGiven (frameOf plane) tol
-        (polygonsOf (spaceCell (cell t (now (conn .entry)) (now (xs .entry))))) (now (numbers .entry)) r
+        (polygonsOf (spaceCell (cell «cell_type» (now (conn .entry)) (now (coords .entry))))) (now (numbers .entry)) r
         (now (numbers .exit)) ⌝ }
 {
     let mut points = [0.0f64; 144];
@@ -118,7 +148,16 @@ fn line_fixed(t: u8, conn: &[u64], xs: &[f64], plane: Plane, tol: f64, numbers: 
     let mut polygon = [0.0f64; 72];
     let mut clipped = [0.0f64; 108];
     let mut flat = [0.0f64; 216];
-    let section = cuts::section_fixed(t, conn, xs, plane, tol, &mut points, &mut nodes, &mut ends);
+    let section = cuts::section_fixed(
+        cell_type,
+        conn,
+        coords,
+        plane,
+        tol,
+        &mut points,
+        &mut nodes,
+        &mut ends,
+    );
     let s = section.stitched;
     let n = s.nodes;
     let f = s.loops;

@@ -20,7 +20,7 @@ use Rattle.plane_cell.proofs.Lines.{line-placed}
 pub plane-cell-sound : PlaneCellSound
 plane-cell-sound way k g tol a =
     let P : List Seg → Type 0 = λ ss. length ss ≤ 384 in
-    cut-sound P (λ l. Unit {0}) 2 (typedInPlane (planeType (k .number))) (k .conn) (k .coords) (lineThrough way g tol) (segmentsIn a)
+    cut-sound P (λ l. Unit {0}) 2 (typedInPlane (planeType (k .cell-type))) (k .conn) (k .coords) (lineThrough way g tol) (segmentsIn a)
     (line-placed way g tol)
     (λ ps r l _.
     sound-unless 1 7 P 7 (leb (6 * length (flatten ps)) a) (found (polygonSegments l ps)) (omega arith) (omega arith)

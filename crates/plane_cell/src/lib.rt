@@ -21,65 +21,83 @@ use vector::Vec2;
 // Cuts a single cell in the plane with the line through origin that has this normal: the segments, four numbers
 // each.
 pub fn slice_2d(
-    t: u8,
+    cell_type: u8,
     conn: &[u64],
-    xs: &[f64],
+    coords: &[f64],
     origin: &[f64],
     normal: &[f64],
     tol: f64,
     numbers: &mut [f64],
 ) -> Line
     ensures { λ r. ⌜ GaveLine
-        (planeCellCut way.Normal (cell t (now (conn .entry)) (now (xs .entry)))
+        (planeCellCut way.Normal (cell «cell_type» (now (conn .entry)) (now (coords .entry)))
         (through (now (origin .entry)) (now (normal .entry))) tol (length (now (numbers .entry))))
         (lineTold r) (now (numbers .entry)) (now (numbers .exit)) ⌝ }
 {
-    cut_cell(Way::Normal, t, conn, xs, origin, normal, tol, numbers)
+    cut_cell(
+        Way::Normal,
+        cell_type,
+        conn,
+        coords,
+        origin,
+        normal,
+        tol,
+        numbers,
+    )
 }
 
 // The same with the line through origin that has this direction.
 pub fn slice_line(
-    t: u8,
+    cell_type: u8,
     conn: &[u64],
-    xs: &[f64],
+    coords: &[f64],
     origin: &[f64],
     direction: &[f64],
     tol: f64,
     numbers: &mut [f64],
 ) -> Line
     ensures { λ r. ⌜ GaveLine
-        (planeCellCut way.Direction (cell t (now (conn .entry)) (now (xs .entry)))
+        (planeCellCut way.Direction (cell «cell_type» (now (conn .entry)) (now (coords .entry)))
         (through (now (origin .entry)) (now (direction .entry))) tol (length (now (numbers .entry))))
         (lineTold r) (now (numbers .entry)) (now (numbers .exit)) ⌝ }
 {
-    cut_cell(Way::Direction, t, conn, xs, origin, direction, tol, numbers)
+    cut_cell(
+        Way::Direction,
+        cell_type,
+        conn,
+        coords,
+        origin,
+        direction,
+        tol,
+        numbers,
+    )
 }
 
 // Cuts a single cell in the plane: it is tested, the line placed, the room looked at, and then nothing is refused.
 fn cut_cell(
-    by: Way,
-    t: u8,
+    way: Way,
+    cell_type: u8,
     conn: &[u64],
-    xs: &[f64],
+    coords: &[f64],
     origin: &[f64],
     vector: &[f64],
     tol: f64,
     numbers: &mut [f64],
 ) -> Line
     ensures { λ r. ⌜ GaveLine
-        (planeCellCut by (cell t (now (conn .entry)) (now (xs .entry)))
+        (planeCellCut way (cell «cell_type» (now (conn .entry)) (now (coords .entry)))
         (through (now (origin .entry)) (now (vector .entry))) tol (length (now (numbers .entry))))
         (lineTold r) (now (numbers .entry)) (now (numbers .exit)) ⌝ }
 {
-    match cell::test_plane_cell(t, conn, xs) {
+    match cell::test_plane_cell(cell_type, conn, coords) {
         Reading::Refused(k) => Line::Refused(k),
-        Reading::Cell(corners) => match place(by, origin, vector, tol) {
+        Reading::Cell(corners) => match place(way, origin, vector, tol) {
             Cutting::Refused(k) => Line::Refused(k),
             Cutting::By(cut) => {
                 if 6 * corners > numbers.len() {
                     return Line::Refused(7);
                 }
-                Line::Cut(line_cell(t, conn, xs, corners, cut, numbers))
+                Line::Cut(line_cell(cell_type, conn, coords, corners, cut, numbers))
             }
         },
     }
@@ -92,8 +110,8 @@ enum Cutting {
 }
 
 // The line through origin with this normal or direction, or refusal 5 or 6.
-fn place(by: Way, origin: &[f64], vector: &[f64], tol: f64) -> Cutting
-    ensures { λ r. ⌜ cutting r ≡ lineThrough by (through (now (origin .entry)) (now (vector .entry))) tol ⌝ }
+fn place(way: Way, origin: &[f64], vector: &[f64], tol: f64) -> Cutting
+    ensures { λ r. ⌜ cutting r ≡ lineThrough way (through (now (origin .entry)) (now (vector .entry))) tol ⌝ }
 {
     if origin.len() != 2 {
         return Cutting::Refused(5);
@@ -101,7 +119,7 @@ fn place(by: Way, origin: &[f64], vector: &[f64], tol: f64) -> Cutting
     if vector.len() != 2 {
         return Cutting::Refused(5);
     }
-    match normal_by(by, vector::point2(vector, 0)) {
+    match normal_by(way, vector::point2(vector, 0)) {
         Unit2::Along(n) => Cutting::By(Cut {
             origin: vector::point2(origin, 0),
             normal: n,
@@ -112,47 +130,68 @@ fn place(by: Way, origin: &[f64], vector: &[f64], tol: f64) -> Cutting
 }
 
 // The unit normal of a line by its normal or its direction.
-fn normal_by(by: Way, vector: Vec2) -> Unit2
-    ensures { λ r. ⌜ unit2 r ≡ normalBy by (vec2 vector) ⌝ }
+fn normal_by(way: Way, vector: Vec2) -> Unit2
+    ensures { λ r. ⌜ unit2 r ≡ normalBy way (vec2 vector) ⌝ }
 {
-    match by {
+    match way {
         Way::Normal => vector.unit(),
         Way::Direction => vector.normal_along(),
     }
 }
 
 // The segments of an accepted cell of n corners on a line. Scratch comes in two tiers.
-fn line_cell(t: u8, conn: &[u64], xs: &[f64], n: usize, cut: Cut, numbers: &mut [f64]) -> Found
-    requires { ⌜ CanCut (cell t (now conn) (now xs)) n (now numbers) ⌝ }
-    ensures { λ r. ⌜ PolygonCut (cut2 cut) (polygonsOf (planeCell (cell t (now (conn .entry)) (now (xs .entry)))))
+fn line_cell(
+    cell_type: u8,
+    conn: &[u64],
+    coords: &[f64],
+    n: usize,
+    cut: Cut,
+    numbers: &mut [f64],
+) -> Found
+    requires { ⌜ CanCut (cell «cell_type» (now conn) (now coords)) n (now numbers) ⌝ }
+    ensures { λ r. ⌜ PolygonCut (cut2 cut) (polygonsOf (planeCell (cell «cell_type» (now (conn .entry)) (now (coords .entry)))))
         (now (numbers .entry)) r (now (numbers .exit)) ⌝ }
 {
     if n <= 4 {
-        return line_small(t, conn, xs, n, cut, numbers);
+        return line_small(cell_type, conn, coords, n, cut, numbers);
     }
-    line_large(t, conn, xs, n, cut, numbers)
+    line_large(cell_type, conn, coords, n, cut, numbers)
 }
 
 // Of at most four corners.
-fn line_small(t: u8, conn: &[u64], xs: &[f64], n: usize, cut: Cut, numbers: &mut [f64]) -> Found
-    requires { ⌜ CanCut (cell t (now conn) (now xs)) n (now numbers) × (n ≤ 4) ⌝ }
-    ensures { λ r. ⌜ PolygonCut (cut2 cut) (polygonsOf (planeCell (cell t (now (conn .entry)) (now (xs .entry)))))
+fn line_small(
+    cell_type: u8,
+    conn: &[u64],
+    coords: &[f64],
+    n: usize,
+    cut: Cut,
+    numbers: &mut [f64],
+) -> Found
+    requires { ⌜ CanCut (cell «cell_type» (now conn) (now coords)) n (now numbers) × (n ≤ 4) ⌝ }
+    ensures { λ r. ⌜ PolygonCut (cut2 cut) (polygonsOf (planeCell (cell «cell_type» (now (conn .entry)) (now (coords .entry)))))
         (now (numbers .entry)) r (now (numbers .exit)) ⌝ }
 {
-    let mut coords = [0.0f64; 8];
+    let mut polygon = [0.0f64; 8];
     let mut points = [0.0f64; 12];
-    cell::copy_plane_cell(t, conn, xs, &mut coords);
-    clip_plane::polygon::plane_section_segments(&coords, n, cut, &mut points, numbers)
+    cell::copy_plane_cell(cell_type, conn, coords, &mut polygon);
+    clip_plane::polygon::plane_section_segments(&polygon, n, cut, &mut points, numbers)
 }
 
 // Of at most 256.
-fn line_large(t: u8, conn: &[u64], xs: &[f64], n: usize, cut: Cut, numbers: &mut [f64]) -> Found
-    requires { ⌜ CanCut (cell t (now conn) (now xs)) n (now numbers) × (n ≤ 256) ⌝ }
-    ensures { λ r. ⌜ PolygonCut (cut2 cut) (polygonsOf (planeCell (cell t (now (conn .entry)) (now (xs .entry)))))
+fn line_large(
+    cell_type: u8,
+    conn: &[u64],
+    coords: &[f64],
+    n: usize,
+    cut: Cut,
+    numbers: &mut [f64],
+) -> Found
+    requires { ⌜ CanCut (cell «cell_type» (now conn) (now coords)) n (now numbers) × (n ≤ 256) ⌝ }
+    ensures { λ r. ⌜ PolygonCut (cut2 cut) (polygonsOf (planeCell (cell «cell_type» (now (conn .entry)) (now (coords .entry)))))
         (now (numbers .entry)) r (now (numbers .exit)) ⌝ }
 {
-    let mut coords = [0.0f64; 512];
+    let mut polygon = [0.0f64; 512];
     let mut points = [0.0f64; 768];
-    cell::copy_plane_cell(t, conn, xs, &mut coords);
-    clip_plane::polygon::plane_section_segments(&coords, n, cut, &mut points, numbers)
+    cell::copy_plane_cell(cell_type, conn, coords, &mut polygon);
+    clip_plane::polygon::plane_section_segments(&polygon, n, cut, &mut points, numbers)
 }

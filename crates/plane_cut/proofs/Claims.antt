@@ -71,7 +71,7 @@ alike-by-plane k k′ ps ps′ r r′ z g tol l =
 pub plane-sound : PlaneSound
 plane-sound k g tol l =
     let P = PlaneSection k g tol in
-    cut-sound P (λ f. planeOf (g .origin) (g .vector) ≡ framed f) 3 (typedInSpace (spaceType (k .number))) (k .conn) (k .coords)
+    cut-sound P (λ f. planeOf (g .origin) (g .vector) ≡ framed f) 3 (typedInSpace (spaceType (k .cell-type))) (k .conn) (k .coords)
     (placeIn Normal g) (sectionIn tol l) (place-sound Normal g)
     (λ ps r f e.
     let m = length (flatten ps) in

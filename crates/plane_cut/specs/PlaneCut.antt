@@ -39,7 +39,7 @@ mostSegments Phed = 384
 -- an accepted cell of type t gives at most so many, whatever the plane and the tolerance
 abbrev pub SegmentsBounded : Type 0
 SegmentsBounded =
-    (k : Cell) (t : SpaceType) (ps : List Polygon) → spaceType (k .number) ≡ Known t → spaceCell k ≡ found ps → (f : Frame) (tol : Float)
+    (k : Cell) (t : SpaceType) (ps : List Polygon) → spaceType (k .cell-type) ≡ Known t → spaceCell k ≡ found ps → (f : Frame) (tol : Float)
     → length (segmentsOn f tol ps) ≤ mostSegments (shapeOf t)
 
 -- ---- only the corners matter

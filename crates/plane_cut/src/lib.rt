@@ -12,9 +12,9 @@ use stitch::alone::room;
 // Cuts a single cell in space with a plane: the section's points in the plane's own coordinates, the nodes of its
 // loops, and where each loop ends among them.
 pub fn section_cell_by_plane(
-    t: u8,
+    cell_type: u8,
     conn: &[u64],
-    xs: &[f64],
+    coords: &[f64],
     origin: &[f64],
     normal: &[f64],
     tol: f64,
@@ -23,12 +23,12 @@ pub fn section_cell_by_plane(
     ends: &mut [u32],
 ) -> Section
     ensures { λ r. ⌜ Gave
-        (planeCut (cell t (now (conn .entry)) (now (xs .entry))) (through (now (origin .entry)) (now (normal .entry))) tol
+        (planeCut (cell «cell_type» (now (conn .entry)) (now (coords .entry))) (through (now (origin .entry)) (now (normal .entry))) tol
         (lengths (buffers (now (numbers .entry)) (now (nodes .entry)) (now (ends .entry)))))
         (sectionTold r) (buffers (now (numbers .entry)) (now (nodes .entry)) (now (ends .entry)))
         (buffers (now (numbers .exit)) (now (nodes .exit)) (now (ends .exit))) ⌝ }
 {
-    match cell::test_space_cell(t, conn, xs) {
+    match cell::test_space_cell(cell_type, conn, coords) {
         Reading::Refused(k) => Section::Refused(k),
         Reading::Cell(corners) => match cuts::place(Way::Normal, origin, normal) {
             Placing::Refused(k) => Section::Refused(k),
@@ -43,7 +43,16 @@ pub fn section_cell_by_plane(
                 ) {
                     return Section::Refused(7);
                 }
-                Section::Cut(cuts::section_cell(t, conn, xs, plane, tol, numbers, nodes, ends))
+                Section::Cut(cuts::section_cell(
+                    cell_type,
+                    conn,
+                    coords,
+                    plane,
+                    tol,
+                    numbers,
+                    nodes,
+                    ends,
+                ))
             }
         },
     }

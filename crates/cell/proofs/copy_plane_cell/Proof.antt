@@ -9,13 +9,13 @@ corners-of-requires : tie.Need-corners-of-requires
 corners-of-requires c κs = search needs
 
 copy-polygon-requires : tie.Need-copy-polygon-requires
-copy-polygon-requires c κs = rw (c .before .corners-of .ensures) (copies-plane (cell (c .before .before .before .before .before .args .t) (c .before .before .before .before .before .args .conn .now) (c .before .before .before .before .before .args .xs .now)) (c .before .before .before .before .before .pre .0) _ (c .before .before .before .before .before .pre .1))
+copy-polygon-requires c κs = rw (c .before .corners-of .ensures) (copies-plane (cell (c .before .before .before .before .before .args .cell-type) (c .before .before .before .before .before .args .conn .now) (c .before .before .before .before .before .args .coords .now)) (c .before .before .before .before .before .pre .0) _ (c .before .before .before .before .before .pre .1))
 
 same-length : tie.Need-same-length
 same-length c = search needs
 
 returns : tie.Need-returns
-returns c = rw (← plane-polygons (cell (c .before .before .before .before .before .before .before .before .args .t) (c .before .before .before .before .before .before .before .before .args .conn .now) (c .before .before .before .before .before .before .before .before .args .xs .now)) (c .before .before .before .before .before .before .before .before .pre .0)) (rw (c .before .before .before .before .corners-of .ensures) at (c .before .before .copy-polygon .ensures))
+returns c = rw (← plane-polygons (cell (c .before .before .before .before .before .before .before .before .args .cell-type) (c .before .before .before .before .before .before .before .before .args .conn .now) (c .before .before .before .before .before .before .before .before .args .coords .now)) (c .before .before .before .before .before .before .before .before .pre .0)) (rw (c .before .before .before .before .corners-of .ensures) at (c .before .before .copy-polygon .ensures))
 
 pub copy-plane-cell-spec : {M : Type 1} → statement M
 copy-plane-cell-spec =

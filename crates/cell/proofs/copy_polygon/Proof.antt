@@ -23,7 +23,7 @@ same-length c = search needs
 
 returns : tie.Need-returns
 unfolding from
-returns c = record { coords = c .before .before .copy-rows .ensures ∙ corners-copied 2 (c .before .before .before .before .before .before .before .before .before .args .conn .now) (c .before .before .before .before .before .before .before .before .before .args .xs .now) (polygonOf (c .before .before .before .before .before .before .before .before .before .args .n)) _ _ (polygon-taken (c .before .before .before .before .before .before .before .before .before .args .n) 4 _ refl (c .before .before .before .before .before .if1 .taken)) }
+returns c = record { coords = c .before .before .copy-rows .ensures ∙ corners-copied 2 (c .before .before .before .before .before .before .before .before .before .args .conn .now) (c .before .before .before .before .before .before .before .before .before .args .coords .now) (polygonOf (c .before .before .before .before .before .before .before .before .before .args .n)) _ _ (polygon-taken (c .before .before .before .before .before .before .before .before .before .args .n) 4 _ refl (c .before .before .before .before .before .if1 .taken)) }
 
 list-pgon-requires : tie.Need-list-pgon-requires
 list-pgon-requires c κs = search needs
@@ -41,7 +41,7 @@ same-length-2 : tie.Need-same-length-2
 same-length-2 c = search needs
 
 returns-2 : tie.Need-returns-2
-returns-2 c = record { coords = c .before .before .copy-rows2 .ensures ∙ corners-copied 2 (c .before .before .before .before .before .before .before .before .before .before .before .args .conn .now) (c .before .before .before .before .before .before .before .before .before .before .before .args .xs .now) (polygonOf (c .before .before .before .before .before .before .before .before .before .before .before .args .n)) _ _ (c .before .before .before .before .before .list-pgon .ensures .1) }
+returns-2 c = record { coords = c .before .before .copy-rows2 .ensures ∙ corners-copied 2 (c .before .before .before .before .before .before .before .before .before .before .before .args .conn .now) (c .before .before .before .before .before .before .before .before .before .before .before .args .coords .now) (polygonOf (c .before .before .before .before .before .before .before .before .before .before .before .args .n)) _ _ (c .before .before .before .before .before .list-pgon .ensures .1) }
 
 pub copy-polygon-spec : {M : Type 1} → statement M
 copy-polygon-spec =

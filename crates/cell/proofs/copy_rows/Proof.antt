@@ -10,10 +10,10 @@ use Rattle.cell.proofs.copy_rows.Statement.{statement}
 use Rattle.cell.proofs.copy_rows.Tie as tie
 
 abbrev Inv-loop : tie.InvT-loop
-Inv-loop w conn xs corners out₀ j₀ out j = Filling w conn xs corners out₀ out j
+Inv-loop w conn coords corners out₀ j₀ out j = Filling w conn coords corners out₀ out j
 
 abbrev μ-loop : tie.MeasureT-loop
-μ-loop w conn xs corners out₀ j₀ out j = length corners - j
+μ-loop w conn coords corners out₀ j₀ out j = length corners - j
 
 abbrev loop-of : (c : tie.After-node Inv-loop μ-loop) → tie.At-loop Inv-loop μ-loop
 loop-of c = c .before .before .before
@@ -21,13 +21,13 @@ loop-of c = c .before .before .before
 abbrev start-of : (c : tie.After-node Inv-loop μ-loop) → tie.Start Inv-loop μ-loop
 start-of c = loop-of c .before .before .before .before .before
 
-is-row : (c : tie.After-node Inv-loop μ-loop) → c .node .result < length (start-of c .args .xs .now) / start-of c .args .w
+is-row : (c : tie.After-node Inv-loop μ-loop) → c .node .result < length (start-of c .args .coords .now) / start-of c .args .w
 is-row c =
-    subst (λ n. n < length (start-of c .args .xs .now) / start-of c .args .w) (sym (c .node .ensures))
+    subst (λ n. n < length (start-of c .args .coords .now) / start-of c .args .w) (sym (c .node .ensures))
     (row-at _ _ _ (loop-of c .loop .j) (start-of c .pre .are-rows) (omega arith))
 
-row-within : (c : tie.After-node Inv-loop μ-loop) → start-of c .args .w * c .node .result + start-of c .args .w ≤ length (start-of c .args .xs .now)
-row-within c = row-fits (start-of c .args .w) (start-of c .args .xs .now) (c .node .result) (is-row c)
+row-within : (c : tie.After-node Inv-loop μ-loop) → start-of c .args .w * c .node .result + start-of c .args .w ≤ length (start-of c .args .coords .now)
+row-within c = row-fits (start-of c .args .w) (start-of c .args .coords .now) (c .node .result) (is-row c)
 
 room : (c : tie.After-node Inv-loop μ-loop) → start-of c .args .w * loop-of c .loop .j + start-of c .args .w ≤ length (loop-of c .loop .out)
 room c =
@@ -74,7 +74,7 @@ copy-requires c κs =
     let a = c .before .before in
     let g = start-of a .args in
     let n = a .node .result in
-    omega (arith, ap length (row-is (g .w) (g .xs .now) n (is-row a)), row-length (g .w) (g .xs .now) n (is-row a), room a)
+    omega (arith, ap length (row-is (g .w) (g .coords .now) n (is-row a)), row-length (g .w) (g .coords .now) n (is-row a), room a)
 
 add-j : tie.Need-add-j Inv-loop μ-loop
 add-j c = omega arith

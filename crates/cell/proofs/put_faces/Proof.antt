@@ -19,7 +19,7 @@ same-length-2 c = search needs
 returns : tie.Need-returns
 returns c =
     let g = c .before .before .before .before .before .before .before .before .before .before .before .before .before .before .args in
-    record { puts = λ fs p t. copied (g .conn .now) (g .xs .now) fs _ _ p t _ _ _ _ (c .before .before .before .before .before .before .copy-rows .ensures) (c .before .before .put .ensures) }
+    record { puts = λ fs p t. copied (g .conn .now) (g .coords .now) fs _ _ p t _ _ _ _ (c .before .before .before .before .before .before .copy-rows .ensures) (c .before .before .put .ensures) }
 
 pub put-faces-spec : {M : Type 1} → statement M
 put-faces-spec =

@@ -21,10 +21,10 @@ start-of c = c .before .before .before .before .before .before .before .before
 abbrev type-of : (c : tie.After-allow) → PlaneType
 type-of c = c .before .before .before .k .given .0 .0
 
-type-known : (c : tie.After-allow) → planeType (start-of c .args .t) ≡ Known (type-of c)
+type-known : (c : tie.After-allow) → planeType (start-of c .args .cell-type) ≡ Known (type-of c)
 type-known c = sym (c .before .before .before .before .before .of-number .ensures) ∙ c .before .before .before .k .given .1
 
-type-told : (c : tie.After-allow) → typedInPlane (planeType (start-of c .args .t)) ≡ typed (planeNodes (type-of c)) (λ d. polygonOf (planeCorners (type-of c) (length d)))
+type-told : (c : tie.After-allow) → typedInPlane (planeType (start-of c .args .cell-type)) ≡ typed (planeNodes (type-of c)) (λ d. polygonOf (planeCorners (type-of c) (length d)))
 type-told c = ap typedInPlane (type-known c)
 
 allow-told : (c : tie.After-allow) → allow (planeNodes (type-of c)) (length (start-of c .args .conn .now)) ≡ c .allow .result
@@ -71,7 +71,7 @@ returns-4 : tie.Need-returns-4
 returns-4 c =
     let l = c .before .before .before in
     let g = start-of (l .before) .args in
-    faces-told 2 (g .conn .now) (g .xs .now) (polygonOf (planeCorners (type-of (l .before)) (length (g .conn .now))))
+    faces-told 2 (g .conn .now) (g .coords .now) (polygonOf (planeCorners (type-of (l .before)) (length (g .conn .now))))
     (counts-right 2 _ _ _ _ _ (type-told (l .before)) (allowed l) (c .before .before .if2 .left)) (rw (c .before .corners .ensures) at (c .test-polygon .ensures))
 
 pub test-plane-cell-spec : {M : Type 1} → statement M

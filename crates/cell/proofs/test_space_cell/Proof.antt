@@ -20,10 +20,10 @@ start-of c = c .before .before .before .before .before .before .before .before
 abbrev type-of : (c : tie.After-allow) → SpaceType
 type-of c = c .before .before .before .k .given .0 .0
 
-type-known : (c : tie.After-allow) → spaceType (start-of c .args .t) ≡ Known (type-of c)
+type-known : (c : tie.After-allow) → spaceType (start-of c .args .cell-type) ≡ Known (type-of c)
 type-known c = sym (c .before .before .before .before .before .of-number .ensures) ∙ c .before .before .before .k .given .1
 
-type-told : (c : tie.After-allow) → typedInSpace (spaceType (start-of c .args .t)) ≡ typed (spaceNodes (type-of c)) (facesOf (shapeOf (type-of c)))
+type-told : (c : tie.After-allow) → typedInSpace (spaceType (start-of c .args .cell-type)) ≡ typed (spaceNodes (type-of c)) (facesOf (shapeOf (type-of c)))
 type-told c = ap typedInSpace (type-known c)
 
 allow-told : (c : tie.After-allow) → allow (spaceNodes (type-of c)) (length (start-of c .args .conn .now)) ≡ c .allow .result
@@ -68,7 +68,7 @@ returns-4 : tie.Need-returns-4
 returns-4 c =
     let l = c .before .before .before in
     let g = start-of (l .before) .args in
-    faces-told 3 (g .conn .now) (g .xs .now) (facesOf (shapeOf (type-of (l .before))) (g .conn .now))
+    faces-told 3 (g .conn .now) (g .coords .now) (facesOf (shapeOf (type-of (l .before))) (g .conn .now))
     (counts-right 3 _ _ _ _ _ (type-told (l .before)) (allowed l) (c .before .before .if2 .left)) (rw (c .before .shape .ensures) at (c .test-faces .ensures))
 
 pub test-space-cell-spec : {M : Type 1} → statement M

@@ -15,7 +15,7 @@ told-section-requires : tie.Need-told-section-requires
 told-section-requires c κs =
     let g = c .before .before .before .before .before .before .before .before .before .before .before .before .before .before .before .before .before .args in
     told-small (c .before .before .before .before .before .before .section-cell-by-plane .ensures)
-    (plane-small (cell (g .kind) (g .conn .now) (g .coords .now)) (through (g .origin .now) (g .normal .now)) (g .tol) (lengths (buffers (g .numbers .now) (g .nodes .now) (g .ends .now))))
+    (plane-small (cell (g .cell-type) (g .conn .now) (g .coords .now)) (through (g .origin .now) (g .normal .now)) (g .tol) (lengths (buffers (g .numbers .now) (g .nodes .now) (g .ends .now))))
 
 same-length : tie.Need-same-length
 same-length c = search needs

@@ -7,7 +7,7 @@ use Rattle.cuts.proofs.gather_cell.Statement.{statement}
 use Rattle.cuts.proofs.gather_cell.Tie as tie
 
 gather-fixed-requires : tie.Need-gather-fixed-requires
-gather-fixed-requires c κs = let s = c .before .before .before .before .before in (s .pre, fixed-within (cell (s .args .t) (s .args .conn .now) (s .args .xs .now)) (s .pre .accepted) (c .before .if1 .taken))
+gather-fixed-requires c κs = let s = c .before .before .before .before .before in (s .pre, fixed-within (cell (s .args .cell-type) (s .args .conn .now) (s .args .coords .now)) (s .pre .accepted) (c .before .if1 .taken))
 
 same-length : tie.Need-same-length
 same-length c = search needs
@@ -16,7 +16,7 @@ returns : tie.Need-returns
 returns c = search needs
 
 gather-small-requires : tie.Need-gather-small-requires
-gather-small-requires c κs = let s = c .before .before .before .before .before .before in (s .pre, phed-within (cell (s .args .t) (s .args .conn .now) (s .args .xs .now)) (s .pre .accepted) 88 29 (c .before .before .if1 .left) (c .before .if2 .taken) (omega arith))
+gather-small-requires c κs = let s = c .before .before .before .before .before .before in (s .pre, phed-within (cell (s .args .cell-type) (s .args .conn .now) (s .args .coords .now)) (s .pre .accepted) 88 29 (c .before .before .if1 .left) (c .before .if2 .taken) (omega arith))
 
 same-length-2 : tie.Need-same-length-2
 same-length-2 c = search needs
@@ -25,7 +25,7 @@ returns-2 : tie.Need-returns-2
 returns-2 c = search needs
 
 gather-large-requires : tie.Need-gather-large-requires
-gather-large-requires c κs = let s = c .before .before .before .before .before .before in (s .pre, any-within (cell (s .args .t) (s .args .conn .now) (s .args .xs .now)) (s .pre .accepted))
+gather-large-requires c κs = let s = c .before .before .before .before .before .before in (s .pre, any-within (cell (s .args .cell-type) (s .args .conn .now) (s .args .coords .now)) (s .pre .accepted))
 
 same-length-3 : tie.Need-same-length-3
 same-length-3 c = search needs

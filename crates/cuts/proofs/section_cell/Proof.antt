@@ -7,7 +7,7 @@ use Rattle.cuts.proofs.section_cell.Statement.{statement}
 use Rattle.cuts.proofs.section_cell.Tie as tie
 
 section-fixed-requires : tie.Need-section-fixed-requires
-section-fixed-requires c κs = let s = c .before .before .before .before .before .before .before .before .before in (s .pre, fixed-within (cell (s .args .t) (s .args .conn .now) (s .args .xs .now)) (s .pre .accepted) (c .before .before .before .if1 .taken))
+section-fixed-requires c κs = let s = c .before .before .before .before .before .before .before .before .before in (s .pre, fixed-within (cell (s .args .cell-type) (s .args .conn .now) (s .args .coords .now)) (s .pre .accepted) (c .before .before .before .if1 .taken))
 
 same-length : tie.Need-same-length
 same-length c = search needs
@@ -22,7 +22,7 @@ returns : tie.Need-returns
 returns c = search needs
 
 section-small-requires : tie.Need-section-small-requires
-section-small-requires c κs = let s = c .before .before .before .before .before .before .before .before .before .before in (s .pre, phed-within (cell (s .args .t) (s .args .conn .now) (s .args .xs .now)) (s .pre .accepted) 88 29 (c .before .before .before .before .if1 .left) (c .before .before .before .if2 .taken) (omega arith))
+section-small-requires c κs = let s = c .before .before .before .before .before .before .before .before .before .before in (s .pre, phed-within (cell (s .args .cell-type) (s .args .conn .now) (s .args .coords .now)) (s .pre .accepted) 88 29 (c .before .before .before .before .if1 .left) (c .before .before .before .if2 .taken) (omega arith))
 
 same-length-4 : tie.Need-same-length-4
 same-length-4 c = search needs
@@ -37,7 +37,7 @@ returns-2 : tie.Need-returns-2
 returns-2 c = search needs
 
 section-large-requires : tie.Need-section-large-requires
-section-large-requires c κs = let s = c .before .before .before .before .before .before .before .before .before .before in (s .pre, any-within (cell (s .args .t) (s .args .conn .now) (s .args .xs .now)) (s .pre .accepted))
+section-large-requires c κs = let s = c .before .before .before .before .before .before .before .before .before .before in (s .pre, any-within (cell (s .args .cell-type) (s .args .conn .now) (s .args .coords .now)) (s .pre .accepted))
 
 same-length-7 : tie.Need-same-length-7
 same-length-7 c = search needs

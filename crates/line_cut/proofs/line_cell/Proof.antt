@@ -6,7 +6,7 @@ use Rattle.line_cut.proofs.line_cell.Statement.{statement}
 use Rattle.line_cut.proofs.line_cell.Tie as tie
 
 line-fixed-requires : tie.Need-line-fixed-requires
-line-fixed-requires c κs = let s = c .before .before .before .before .before in (s .pre, fixed-within (cell (s .args .t) (s .args .conn .now) (s .args .xs .now)) (s .pre .accepted) (c .before .if1 .taken))
+line-fixed-requires c κs = let s = c .before .before .before .before .before in (s .pre, fixed-within (cell (s .args .cell-type) (s .args .conn .now) (s .args .coords .now)) (s .pre .accepted) (c .before .if1 .taken))
 
 same-length : tie.Need-same-length
 same-length c = search needs
@@ -15,7 +15,7 @@ returns : tie.Need-returns
 returns c = search needs
 
 line-large-requires : tie.Need-line-large-requires
-line-large-requires c κs = let s = c .before .before .before .before .before in (s .pre, any-within (cell (s .args .t) (s .args .conn .now) (s .args .xs .now)) (s .pre .accepted))
+line-large-requires c κs = let s = c .before .before .before .before .before in (s .pre, any-within (cell (s .args .cell-type) (s .args .conn .now) (s .args .coords .now)) (s .pre .accepted))
 
 same-length-2 : tie.Need-same-length-2
 same-length-2 c = search needs

@@ -58,7 +58,7 @@ slice-aggregate-cut-loops-6 c = search needs
 cut-loops-requires : tie.Need-cut-loops-requires
 cut-loops-requires c κs =
     let s = c .before .before .before .before .before .before .before .before .before .before .before .before .before .before .before .before .before .before in
-    loops-ready (frameOf (s .args .plane)) (s .args .tol) _ (polygonsOf (spaceCell (cell (s .args .t) (s .args .conn .now) (s .args .xs .now)))) (s .pre .1 .corners)
+    loops-ready (frameOf (s .args .plane)) (s .args .tol) _ (polygonsOf (spaceCell (cell (s .args .cell-type) (s .args .conn .now) (s .args .coords .now)))) (s .pre .1 .corners)
     (record {
       few = omega arith;
       for-points = search needs;
@@ -74,7 +74,7 @@ returns : tie.Need-returns
 returns c =
     let g = c .before .before .before .before .before .before .before .before .before .before .before .before .before .before .before .before .before .before .before .before .before .before .before .before .args in
     let f = frameOf (g .plane) in
-    record { segments = segments-same (line-of {a = sectionOf f (g .tol) (polygonsOf (spaceCell (cell (g .t) (g .conn .now) (g .xs .now))))} (c .before .before .before .before .before .before .before .before .before .before .before .before .before .before .before .before .before .section-fixed .ensures .stitched) f (g .tol)) (c .before .before .before .before .before .cut-loops .ensures .segments) }
+    record { segments = segments-same (line-of {a = sectionOf f (g .tol) (polygonsOf (spaceCell (cell (g .cell-type) (g .conn .now) (g .coords .now))))} (c .before .before .before .before .before .before .before .before .before .before .before .before .before .before .before .before .before .section-fixed .ensures .stitched) f (g .tol)) (c .before .before .before .before .before .cut-loops .ensures .segments) }
 
 pub line-fixed-spec : {M : Type 1} → statement M
 line-fixed-spec =

@@ -37,7 +37,7 @@ enum-known-plane : tie.Need-enum-known-plane
 enum-known-plane c = search needs
 
 mul-if1 : tie.Need-mul-if1
-mul-if1 c = let s = c .before .before .before .before .before .before .before .before .before .before .before .before .before in omega (arith, corners-few (cell (s .args .t) (s .args .conn .now) (s .args .xs .now)) (c .before .before .before .before .before .before .before .test-space-cell .ensures) (c .before .before .before .before .before .corners .given .1))
+mul-if1 c = let s = c .before .before .before .before .before .before .before .before .before .before .before .before .before in omega (arith, corners-few (cell (s .args .cell-type) (s .args .conn .now) (s .args .coords .now)) (c .before .before .before .before .before .before .before .test-space-cell .ensures) (c .before .before .before .before .before .corners .given .1))
 
 returns : tie.Need-returns
 returns c =
@@ -68,7 +68,7 @@ returns-4 : tie.Need-returns-4
 returns-4 c =
     let s = c .before .before .before .before .before .before .before .before .before .before .before .before .before .before .before .before .before .before in
     line-gave {w = 3} (at-work (c .before .before .before .before .before .before .before .before .before .before .before .before .test-space-cell .ensures) (c .before .before .before .before .before .before .before .before .before .before .corners .given .1) (lineIn (s .args .tol) (length (s .args .numbers .now))) (sym (c .before .before .before .before .before .before .before .before .place .ensures) ∙ ap placing (c .before .before .before .before .before .before .plane .given .1)) (test-passed 7 _ _ (le-leb _ _ (c .before .before .before .before .if1 .left)))) (c .before .before .line-cell .ensures .segments) (search needs)
-    (line-fits (frameOf (c .before .before .before .before .before .before .plane .given .0 .0)) (s .args .tol) (polygonsOf (spaceCell (cell (s .args .t) (s .args .conn .now) (s .args .xs .now)))) (omega (arith, corners-told (c .before .before .before .before .before .before .before .before .before .before .before .before .test-space-cell .ensures) (c .before .before .before .before .before .before .before .before .before .before .corners .given .1), c .before .before .before .before .if1 .left)) (c .before .before .line-cell .ensures .segments))
+    (line-fits (frameOf (c .before .before .before .before .before .before .plane .given .0 .0)) (s .args .tol) (polygonsOf (spaceCell (cell (s .args .cell-type) (s .args .conn .now) (s .args .coords .now)))) (omega (arith, corners-told (c .before .before .before .before .before .before .before .before .before .before .before .before .test-space-cell .ensures) (c .before .before .before .before .before .before .before .before .before .before .corners .given .1), c .before .before .before .before .if1 .left)) (c .before .before .line-cell .ensures .segments))
 
 pub slice-line-3d-spec : {M : Type 1} → statement M
 slice-line-3d-spec =

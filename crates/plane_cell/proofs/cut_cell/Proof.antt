@@ -36,7 +36,7 @@ enum-known-cut : tie.Need-enum-known-cut
 enum-known-cut c = search needs
 
 mul-if1 : tie.Need-mul-if1
-mul-if1 c = let s = c .before .before .before .before .before .before .before .before .before .before .before .before .before in omega (arith, corners-told (c .before .before .before .before .before .before .before .test-plane-cell .ensures) (c .before .before .before .before .before .corners .given .1), few-corners (cell (s .args .t) (s .args .conn .now) (s .args .xs .now)) _ (was-accepted (c .before .before .before .before .before .before .before .test-plane-cell .ensures) (c .before .before .before .before .before .corners .given .1)))
+mul-if1 c = let s = c .before .before .before .before .before .before .before .before .before .before .before .before .before in omega (arith, corners-told (c .before .before .before .before .before .before .before .test-plane-cell .ensures) (c .before .before .before .before .before .corners .given .1), few-corners (cell (s .args .cell-type) (s .args .conn .now) (s .args .coords .now)) _ (was-accepted (c .before .before .before .before .before .before .before .test-plane-cell .ensures) (c .before .before .before .before .before .corners .given .1)))
 
 returns : tie.Need-returns
 returns c =
@@ -54,7 +54,7 @@ line-cell-requires c κs =
 returns-2 : tie.Need-returns-2
 returns-2 c =
     let s = c .before .before .before .before .before .before .before .before .before in
-    line-refused _ (cell-refused (c .before .before .before .test-plane-cell .ensures) (lineThrough (s .args .by) (through (s .args .origin .now) (s .args .vector .now)) (s .args .tol)) (segmentsIn (length (s .args .numbers .now))) (c .before .k .given .1))
+    line-refused _ (cell-refused (c .before .before .before .test-plane-cell .ensures) (lineThrough (s .args .way) (through (s .args .origin .now) (s .args .vector .now)) (s .args .tol)) (segmentsIn (length (s .args .numbers .now))) (c .before .k .given .1))
 
 returns-3 : tie.Need-returns-3
 returns-3 c =
@@ -68,7 +68,7 @@ returns-4 : tie.Need-returns-4
 returns-4 c =
     let s = c .before .before .before .before .before .before .before .before .before .before .before .before .before .before .before .before .before .before in
     line-gave {w = 2} (at-work (c .before .before .before .before .before .before .before .before .before .before .before .before .test-plane-cell .ensures) (c .before .before .before .before .before .before .before .before .before .before .corners .given .1) (segmentsIn (length (s .args .numbers .now))) (sym (c .before .before .before .before .before .before .before .before .place .ensures) ∙ ap cutting (c .before .before .before .before .before .before .cut .given .1)) (test-passed 7 _ _ (le-leb _ _ (c .before .before .before .before .if1 .left)))) (c .before .before .line-cell .ensures .segments) (search needs)
-    (segments-fit (cell (s .args .t) (s .args .conn .now) (s .args .xs .now)) (was-accepted (c .before .before .before .before .before .before .before .before .before .before .before .before .test-plane-cell .ensures) (c .before .before .before .before .before .before .before .before .before .before .corners .given .1)) (cut2 (c .before .before .before .before .before .before .cut .given .0 .0)) (omega (arith, corners-told (c .before .before .before .before .before .before .before .before .before .before .before .before .test-plane-cell .ensures) (c .before .before .before .before .before .before .before .before .before .before .corners .given .1), c .before .before .before .before .if1 .left)) (c .before .before .line-cell .ensures .segments))
+    (segments-fit (cell (s .args .cell-type) (s .args .conn .now) (s .args .coords .now)) (was-accepted (c .before .before .before .before .before .before .before .before .before .before .before .before .test-plane-cell .ensures) (c .before .before .before .before .before .before .before .before .before .before .corners .given .1)) (cut2 (c .before .before .before .before .before .before .cut .given .0 .0)) (omega (arith, corners-told (c .before .before .before .before .before .before .before .before .before .before .before .before .test-plane-cell .ensures) (c .before .before .before .before .before .before .before .before .before .before .corners .given .1), c .before .before .before .before .if1 .left)) (c .before .before .line-cell .ensures .segments))
 
 pub cut-cell-spec : {M : Type 1} → statement M
 cut-cell-spec =

@@ -16,7 +16,7 @@ returns : tie.Need-returns
 returns c = search needs
 
 line-large-requires : tie.Need-line-large-requires
-line-large-requires c κs = let s = c .before .before .before .before .before in (s .pre, omega (arith, few-corners (cell (s .args .t) (s .args .conn .now) (s .args .xs .now)) _ (s .pre .accepted), s .pre .corners))
+line-large-requires c κs = let s = c .before .before .before .before .before in (s .pre, omega (arith, few-corners (cell (s .args .cell-type) (s .args .conn .now) (s .args .coords .now)) _ (s .pre .accepted), s .pre .corners))
 
 same-length-2 : tie.Need-same-length-2
 same-length-2 c = search needs

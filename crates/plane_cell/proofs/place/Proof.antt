@@ -10,10 +10,10 @@ use Rattle.plane_cell.proofs.place.Statement.{statement}
 use Rattle.plane_cell.proofs.place.Tie as tie
 
 returns : tie.Need-returns
-returns c = let s = c .before .before .before in origin-long 2 (through (s .args .origin .now) (s .args .vector .now)) (lineWith (s .args .origin .now) (s .args .tol) (normalBy (s .args .by) (s .args .vector .now))) (c .if1 .taken)
+returns c = let s = c .before .before .before in origin-long 2 (through (s .args .origin .now) (s .args .vector .now)) (lineWith (s .args .origin .now) (s .args .tol) (normalBy (s .args .way) (s .args .vector .now))) (c .if1 .taken)
 
 returns-2 : tie.Need-returns-2
-returns-2 c = let s = c .before .before .before .before in vector-long 2 (through (s .args .origin .now) (s .args .vector .now)) (lineWith (s .args .origin .now) (s .args .tol) (normalBy (s .args .by) (s .args .vector .now))) (c .before .if1 .left) (c .if2 .taken)
+returns-2 c = let s = c .before .before .before .before in vector-long 2 (through (s .args .origin .now) (s .args .vector .now)) (lineWith (s .args .origin .now) (s .args .tol) (normalBy (s .args .way) (s .args .vector .now))) (c .before .if1 .left) (c .if2 .taken)
 
 point2-requires : tie.Need-point2-requires
 point2-requires c κs = search needs
@@ -34,13 +34,13 @@ returns-3 : tie.Need-returns-3
 returns-3 c =
     let s = c .before .before .before .before .before .before .before .before .before .before in
     ap (λ x. lineWith (vec2 (c .point22 .result)) (s .args .tol) (unit2 x)) (sym (c .before .before .n .given .1))
-    ∙ line-made (s .args .by) (through (s .args .origin .now) (s .args .vector .now)) (s .args .tol) (c .before .before .before .before .before .before .before .if1 .left) (c .before .before .before .before .before .before .if2 .left) (c .point22 .ensures) (c .before .before .before .before .before .point2 .ensures) (c .before .before .before .before .normal-by .ensures)
+    ∙ line-made (s .args .way) (through (s .args .origin .now) (s .args .vector .now)) (s .args .tol) (c .before .before .before .before .before .before .before .if1 .left) (c .before .before .before .before .before .before .if2 .left) (c .point22 .ensures) (c .before .before .before .before .before .point2 .ensures) (c .before .before .before .before .normal-by .ensures)
 
 returns-4 : tie.Need-returns-4
 returns-4 c =
     let s = c .before .before .before .before .before .before .before .before in
     ap (λ x. lineWith (s .args .origin .now) (s .args .tol) (unit2 x)) (sym (c .enum-told .given .1))
-    ∙ line-made (s .args .by) (through (s .args .origin .now) (s .args .vector .now)) (s .args .tol) (c .before .before .before .before .before .if1 .left) (c .before .before .before .before .if2 .left) (sym (whole-row 2 (s .args .origin .now) (c .before .before .before .before .before .if1 .left))) (c .before .before .before .point2 .ensures) (c .before .before .normal-by .ensures)
+    ∙ line-made (s .args .way) (through (s .args .origin .now) (s .args .vector .now)) (s .args .tol) (c .before .before .before .before .before .if1 .left) (c .before .before .before .before .if2 .left) (sym (whole-row 2 (s .args .origin .now) (c .before .before .before .before .before .if1 .left))) (c .before .before .before .point2 .ensures) (c .before .before .normal-by .ensures)
 
 pub place-spec : {M : Type 1} → statement M
 place-spec =

@@ -45,10 +45,10 @@ enum-known-plane : tie.Need-enum-known-plane
 enum-known-plane c = search needs
 
 mul-room : tie.Need-mul-room
-mul-room c = let s = c .before .before .before .before .before .before .before .before .before .before .before .before .before .before .before in omega (arith, corners-few (cell (s .args .t) (s .args .conn .now) (s .args .xs .now)) (c .before .before .before .before .before .before .before .test-space-cell .ensures) (c .before .before .before .before .before .corners .given .1))
+mul-room c = let s = c .before .before .before .before .before .before .before .before .before .before .before .before .before .before .before in omega (arith, corners-few (cell (s .args .cell-type) (s .args .conn .now) (s .args .coords .now)) (c .before .before .before .before .before .before .before .test-space-cell .ensures) (c .before .before .before .before .before .corners .given .1))
 
 mul-room-2 : tie.Need-mul-room-2
-mul-room-2 c = let s = c .before .before .before .before .before .before .before .before .before .before .before .before .before .before .before in omega (arith, corners-few (cell (s .args .t) (s .args .conn .now) (s .args .xs .now)) (c .before .before .before .before .before .before .before .test-space-cell .ensures) (c .before .before .before .before .before .corners .given .1))
+mul-room-2 c = let s = c .before .before .before .before .before .before .before .before .before .before .before .before .before .before .before in omega (arith, corners-few (cell (s .args .cell-type) (s .args .conn .now) (s .args .coords .now)) (c .before .before .before .before .before .before .before .test-space-cell .ensures) (c .before .before .before .before .before .corners .given .1))
 
 room-requires : tie.Need-room-requires
 room-requires c κs = search needs
@@ -61,7 +61,7 @@ returns c =
 section-cell-requires : tie.Need-section-cell-requires
 section-cell-requires c κs =
     let s = c .before .before .before .before .before .before .before .before .before .before .before .before .before .before .before .before .before .before .before .before in
-    can-section (cell (s .args .t) (s .args .conn .now) (s .args .xs .now)) (c .before .before .before .before .before .before .before .before .before .before .before .before .test-space-cell .ensures) (c .before .before .before .before .before .before .before .before .before .before .corners .given .1) _ _ _ (sym (c .before .before .before .before .room .ensures) ∙ not-false _ (c .before .before .before .if1 .left))
+    can-section (cell (s .args .cell-type) (s .args .conn .now) (s .args .coords .now)) (c .before .before .before .before .before .before .before .before .before .before .before .before .test-space-cell .ensures) (c .before .before .before .before .before .before .before .before .before .before .corners .given .1) _ _ _ (sym (c .before .before .before .before .room .ensures) ∙ not-false _ (c .before .before .before .if1 .left))
 
 returns-2 : tie.Need-returns-2
 returns-2 c =
