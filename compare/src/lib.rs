@@ -26,6 +26,8 @@ pub mod vectors;
 pub mod walks;
 #[cfg(feature = "mefikit")]
 pub mod worked;
+#[cfg(feature = "mefikit")]
+pub mod wrong;
 
 pub use proved::sqrt;
 

@@ -143,6 +143,13 @@ fn special_values(_: u64, visit: &mut dyn FnMut(u64)) {
     }
 }
 
+/// `share` patterns of a group, evenly spread over it.
+pub fn sample(group: &Group, share: usize) -> Vec<u64> {
+    let mut all = Vec::new();
+    (group.1)(20_000, &mut |bits| all.push(bits));
+    (0..share).map(|k| all[k * all.len() / share]).collect()
+}
+
 /// What a group's comparison found: how many patterns, how many differences, and the first of them.
 pub struct Found {
     pub patterns: u64,
