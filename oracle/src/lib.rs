@@ -284,9 +284,14 @@ thread_local! {
     static QUIET: Flag<bool> = const { Flag::new(false) };
 }
 
-/// What `work` gives, or `stop` if it panics. Nothing is printed then; panics elsewhere are
-/// told as before.
+/// What `work` gives, or `stop` if it panics.
 fn caught<R, E>(stop: E, work: impl FnOnce() -> R) -> Result<R, E> {
+    quietly(work).map_err(|_| stop)
+}
+
+/// What `work` gives, or what it panics with. Nothing is printed then; panics elsewhere are
+/// told as before.
+fn quietly<R>(work: impl FnOnce() -> R) -> std::thread::Result<R> {
     static HOOK: Once = Once::new();
     HOOK.call_once(|| {
         let before = take_hook();
@@ -299,7 +304,7 @@ fn caught<R, E>(stop: E, work: impl FnOnce() -> R) -> Result<R, E> {
     QUIET.set(true);
     let outcome = catch_unwind(AssertUnwindSafe(work));
     QUIET.set(false);
-    outcome.map_err(|_| stop)
+    outcome
 }
 
 #[cfg(test)]
