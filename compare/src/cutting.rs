@@ -1,4 +1,4 @@
-//! The linked entries held against mefikit's Rust and document 01's refusals, and their counts against
+//! The linked entries held against mefikit's Rust and the rules' refusals, and their counts against
 //! another walk.
 
 use crate::answers::{answer, kept_corners, Answer};
@@ -215,7 +215,7 @@ pub fn compare(entry: Entry, cases: u64, cut: Cut) -> Reached {
     reached
 }
 
-/// Holds an entry against document 01's order of refusals: for each type, cells with each set of conditions
+/// Holds an entry against the rules' order of refusals: for each type, cells with each set of conditions
 /// together, `turns` times. The first of the set must be told. Counted as giving: all that are refused.
 pub fn compare_refusals(entry: Entry, turns: u64, cut: Cut) -> Found {
     let mut random = Random::new(0xc949_d7c7_509e_6557 + entry as u64);

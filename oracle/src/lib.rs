@@ -4,7 +4,7 @@
 //! cells deduplicated, over plain numbers. Each takes the [`Build`] to ask.
 //!
 //! A panic of the Rust is caught, step by step, and becomes a [`Stop`]. The steps are tried in
-//! document 01's order, which the Rust itself does not have.
+//! the rules' order, which the Rust itself does not have.
 
 use std::cell::Cell as Flag;
 use std::panic::{catch_unwind, set_hook, take_hook, AssertUnwindSafe};
@@ -27,9 +27,9 @@ pub type Segment<const D: usize> = [[f64; D]; 2];
 pub enum Build {
     /// The source unchanged.
     Rust,
-    /// The junction compares cosines, as document 01 says; nothing else is changed.
+    /// The junction compares cosines, as docs/RULES.md says; nothing else is changed.
     ByCosine,
-    /// As `ByCosine`, and sums start at plus zero: document 01 to the bit, NaNs being alike.
+    /// As `ByCosine`, and sums start at plus zero: docs/RULES.md to the bit, NaNs being alike.
     ByRules,
 }
 
@@ -45,7 +45,7 @@ macro_rules! ask {
     };
 }
 
-/// Why there is no answer. The numbers are document 01's.
+/// Why there is no answer. The numbers are the rules'.
 #[derive(Clone, Copy, Debug, PartialEq, Eq)]
 pub enum Stop {
     /// No such type, or slice.rs panics on it.
