@@ -9,7 +9,8 @@
  * buffers of one call must overlap neither one another nor what is read.
  *
  * An answer has a refusal number. 0: the answer is there. Else: all other fields are 0, and the lent
- * buffers are untouched. Where a buffer is longer than what was written, the rest keeps its contents. */
+ * buffers are untouched. Where a buffer is longer than what was written, the rest keeps its contents.
+ * That is proved up to the bits of a NaN, of which the proofs know one; runs show that its bits stay. */
 #ifndef CICELYBEAM_H
 #define CICELYBEAM_H
 
@@ -93,8 +94,12 @@ extern "C" {
  *
  * Written: 2 * points to numbers, x and y of each point; nodes to nodes, the points of loop after loop,
  * counted from 0; loops to ends, the number of nodes up to and with each loop. Loop k has the nodes from
- * ends[k - 1] (0 for the first) up to but not with ends[k], at least three of them, counter-clockwise in
- * the plane's coordinates, by its rounded area.
+ * ends[k - 1] (0 for the first) up to but not with ends[k], at least three of them, each less than points.
+ * They stand in the order walked, or all in reverse where the walk's rounded area is negative. So a loop
+ * runs counter-clockwise but for rounding: a very thin one can have a negative rounded area both ways.
+ *
+ * A listed edge joins two different points, and no two listed edges join the same two. One joins any two
+ * cyclic neighbours in a loop, and none is used a second time in any loop.
  *
  * listed = in_loops + flat + open, always. Listed edges that close without an area above the squared
  * tolerance are counted as flat, those that do not close as open; neither is drawn. So every listed edge
@@ -112,7 +117,8 @@ struct cicelybeam_section {
 };
 
 /* The part of a line within a cell, as segments. Written to numbers: first end, then second, six
- * numbers a segment in space and four in the plane. */
+ * numbers a segment in space and four in the plane. No counts are told: what a line in space loses is
+ * said at cicelybeam_line_in_space. */
 struct cicelybeam_line {
   uint32_t refusal;
   uint32_t segments;
@@ -139,7 +145,9 @@ struct cicelybeam_section cicelybeam_plane(uint8_t type, const uint64_t *conn, s
                                            double *numbers, size_t numbers_len, uint32_t *nodes,
                                            size_t nodes_len, uint32_t *ends, size_t ends_len);
 
-/* A space cell cut by the line through origin with this direction. Refuses 1 to 7. */
+/* A space cell cut by the line through origin with this direction: the cell is cut by a plane that holds
+ * the line, and the line cuts the loops of that section. Flat and open pieces of the section are dropped,
+ * and nothing tells of it; to know, cut the cell by a plane that holds the line. Refuses 1 to 7. */
 struct cicelybeam_line cicelybeam_line_in_space(uint8_t type, const uint64_t *conn, size_t conn_len,
                                                 const double *coords, size_t coords_len,
                                                 const double *origin, size_t origin_len,

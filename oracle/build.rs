@@ -4,9 +4,13 @@
 //! slice.rs is built three times: as it stands; with the junction comparing cosines; and with
 //! that and sums that start at plus zero. One line is appended to each copy, so that
 //! src/reach.rs becomes a child of the module and can call its private functions.
+//!
+//! The source must be the one that pinned.sha256 has the checksums of: the two files, and those
+//! of mefikit's mesh that the stand-ins were written after.
 
 use std::path::Path;
-use std::{env, fs, process};
+use std::process::{self, Command};
+use std::{env, fs};
 
 const DEFAULT_SOURCE: &str = "../../shared/docs/src";
 const REACH: &str =
@@ -24,9 +28,8 @@ fn main() {
     let home = env::var("CARGO_MANIFEST_DIR").unwrap();
     let source = env::var("MEFIKIT_SRC").unwrap_or_else(|_| DEFAULT_SOURCE.into());
     // A relative path counts from this folder, whatever folder cargo was started in.
-    let tools = Path::new(&home)
-        .join(source)
-        .join("crates/mefikit/src/tools");
+    let source = Path::new(&home).join(source).join("crates/mefikit/src");
+    let tools = source.join("tools");
     let out = env::var("OUT_DIR").unwrap();
     let out = Path::new(&out);
 
@@ -36,6 +39,7 @@ fn main() {
 
     let slice = read(&tools.join("slice.rs"));
     let snap = read(&tools.join("snap.rs"));
+    pinned(&source, &Path::new(&home).join("pinned.sha256"));
 
     let by_cosine = replaced(&slice, ARCCOSINE, NEGATED, 1);
     let mut by_rules = by_cosine.clone();
@@ -69,6 +73,24 @@ fn read(path: &Path) -> String {
             path.display()
         ))
     })
+}
+
+/// Stops unless the files below `source` have the checksums of `list`.
+fn pinned(source: &Path, list: &Path) {
+    for line in read(list).lines() {
+        let (_, file) = line.split_once("  ").unwrap();
+        println!("cargo:rerun-if-changed={}", source.join(file).display());
+    }
+    let check = Command::new("sha256sum")
+        .args(["--check", "--strict", "--quiet"])
+        .arg(list)
+        .current_dir(source)
+        .status();
+    match check {
+        Ok(status) if status.success() => {}
+        Ok(_) => stop("mefikit's source is not the one of pinned.sha256, which all answers were compared with"),
+        Err(why) => stop(&format!("cannot run sha256sum ({why})")),
+    }
 }
 
 /// `text` with `old` replaced, if it stands there exactly `times` times.

@@ -1,4 +1,4 @@
-//! What an entry has to answer: document 01's refusals, and beyond them what mefikit's Rust gives.
+//! What an entry has to answer: the rules' refusals, and beyond them what mefikit's Rust gives.
 
 use crate::entries::{Case, Entry, Told};
 use crate::walks::{walked, Edges};
@@ -147,7 +147,7 @@ fn stitch(case: &Case, build: Build) -> Result<Answer, u32> {
     Ok(section(&found, &segments, case.tol))
 }
 
-/// A section as it stands in buffers. The counts are document 01's, by cosines; the Rust has none.
+/// A section as it stands in buffers. The counts are the rules', by cosines; the Rust has none.
 fn section(found: &Section, segments: &Segments, tol: f64) -> Answer {
     let (points, edges) = listed(segments, tol);
     let Edges {

@@ -1,10 +1,10 @@
-//! The linked entries held against mefikit's Rust and document 01's refusals, and their counts against
+//! The linked entries held against mefikit's Rust and the rules' refusals, and their counts against
 //! another walk.
 
 use crate::answers::{answer, kept_corners, Answer};
 use crate::cuts::{any_case, corner, refusals, sound, spoil};
 use crate::entries::{Case, Entry, Lent, Told};
-use crate::numbers::{agree, alike, same};
+use crate::numbers::{agree, alike, same, untouched, UNTOUCHED};
 use crate::random::Random;
 use crate::walks::Edges;
 use crate::Found;
@@ -14,8 +14,7 @@ use oracle::Build;
 /// Answers a case in these buffers.
 pub type Cut = fn(&Case, Lent) -> Told;
 
-/// Stand in the buffers before they are lent, and must stand where nothing was written.
-const NUMBER: f64 = -1.234567890123e-67;
+/// Stands in the nodes and ends of a buffer before it is lent, and must stand where nothing was written.
 const NODE: u32 = 0xdead_beef;
 
 /// How far a buffer is watched beyond what is lent.
@@ -43,7 +42,7 @@ pub fn judge(case: &Case, cut: Cut, buffers: &mut Buffers) -> Result<Right, Stri
         nodes,
         ends,
     } = buffers;
-    lend(numbers, case.lent[0], NUMBER);
+    lend(numbers, case.lent[0], UNTOUCHED);
     lend(nodes, case.lent[1], NODE);
     lend(ends, case.lent[2], NODE);
     let told = cut(
@@ -66,10 +65,13 @@ pub fn judge(case: &Case, cut: Cut, buffers: &mut Buffers) -> Result<Right, Stri
     let (numbers, numbers_rest) = numbers.split_at(written[0]);
     let (nodes, nodes_rest) = nodes.split_at(written[1]);
     let (ends, ends_rest) = ends.split_at(written[2]);
-    let untouched = numbers_rest.iter().all(|x| x.to_bits() == NUMBER.to_bits())
+    let as_before = numbers_rest.iter().all(untouched)
         && nodes_rest.iter().chain(ends_rest).all(|&x| x == NODE);
-    if !untouched {
+    if !as_before {
         return wrong("wrote beyond the answer");
+    }
+    if numbers.iter().any(untouched) {
+        return wrong("left a number unwritten");
     }
     if !agree(same, numbers, &rules.numbers) || nodes != rules.nodes || ends != rules.ends {
         return wrong("wrote something else than by the rules");
@@ -213,7 +215,7 @@ pub fn compare(entry: Entry, cases: u64, cut: Cut) -> Reached {
     reached
 }
 
-/// Holds an entry against document 01's order of refusals: for each type, cells with each set of conditions
+/// Holds an entry against the rules' order of refusals: for each type, cells with each set of conditions
 /// together, `turns` times. The first of the set must be told. Counted as giving: all that are refused.
 pub fn compare_refusals(entry: Entry, turns: u64, cut: Cut) -> Found {
     let mut random = Random::new(0xc949_d7c7_509e_6557 + entry as u64);

@@ -17,6 +17,15 @@ pub fn agree(agree: fn(f64, f64) -> bool, a: &[f64], b: &[f64]) -> bool {
     a.len() == b.len() && a.iter().zip(b).all(|(&a, &b)| agree(a, b))
 }
 
+/// Stands in the numbers of a buffer before it is lent: a signalling NaN with a payload that no operation
+/// gives, so that arithmetic on it, a NaN written anew and a number left unwritten all show in the bits.
+pub const UNTOUCHED: f64 = f64::from_bits(0xfff4_1234_5678_9abc);
+
+/// Whether a number of a buffer still has the bits that it was lent with.
+pub fn untouched(x: &f64) -> bool {
+    x.to_bits() == UNTOUCHED.to_bits()
+}
+
 /// A kind of number to draw.
 pub type Draw = fn(&mut Random) -> f64;
 

@@ -1,7 +1,7 @@
 //! The proved clipping held against mefikit's.
 
 use crate::faces::{Face, Group};
-use crate::numbers::{agree, alike, same};
+use crate::numbers::{agree, alike, same, untouched, UNTOUCHED};
 use crate::proved::{self, REFUSED};
 use crate::random::Random;
 use crate::Found;
@@ -12,12 +12,9 @@ pub type Clip<const D: usize> = fn(&Face<D>, &mut [f64]) -> usize;
 /// The proved clipping.
 pub fn ours<const D: usize>(face: &Face<D>, out: &mut [f64]) -> usize {
     let placed = [face.origin, face.normal];
-    let mut points = vec![PATTERN; face.room() / 2];
+    let mut points = vec![UNTOUCHED; face.room() / 2];
     proved::segments(&face.polygon, &placed, face.tol, &mut points, out)
 }
-
-/// Stands in a buffer before it is lent, and must stand where nothing was written.
-const PATTERN: f64 = -1.234567890123e-67;
 
 /// How far a buffer is watched beyond what is lent.
 const WATCHED: usize = 8;
@@ -32,7 +29,7 @@ pub fn judge<const D: usize>(
 ) -> Result<bool, String> {
     let lent = face.room() + longer;
     buffer.clear();
-    buffer.resize(lent + WATCHED, PATTERN);
+    buffer.resize(lent + WATCHED, UNTOUCHED);
     let count = clip(face, &mut buffer[..lent]);
     let wrong = |what: &str| Err(format!("{what} ({count} segments): {}", face.told()));
     if count == REFUSED {
@@ -43,8 +40,11 @@ pub fn judge<const D: usize>(
         return wrong("more than there is room for");
     }
     let (answer, rest) = buffer.split_at(written);
-    if rest.iter().any(|x| x.to_bits() != PATTERN.to_bits()) {
+    if !rest.iter().all(untouched) {
         return wrong("wrote beyond the answer");
+    }
+    if answer.iter().any(untouched) {
+        return wrong("left a number unwritten");
     }
     let Face {
         polygon,
@@ -171,9 +171,9 @@ mod tests {
             normal: [0.0, 0.0, 1.0],
             tol: 0.0,
         };
-        let mut out = vec![PATTERN; face.room()];
+        let mut out = vec![UNTOUCHED; face.room()];
         let short = face.room() - 1;
         assert_eq!(ours(&face, &mut out[..short]), REFUSED);
-        assert!(out.iter().all(|&x| x == PATTERN));
+        assert!(out.iter().all(untouched));
     }
 }

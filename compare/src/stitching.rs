@@ -1,7 +1,7 @@
 //! The proved stitching held against mefikit's, and its counts against another walk.
 
 use crate::lists::{Group, List};
-use crate::numbers::{agree, alike, same};
+use crate::numbers::{agree, alike, same, untouched, UNTOUCHED};
 use crate::proved::{self, Stitched};
 use crate::random::Random;
 use crate::walks::{walked, Edges};
@@ -17,8 +17,7 @@ pub fn ours(list: &List, points: &mut [f64], nodes: &mut [u32], ends: &mut [u32]
     proved::stitch(&list.segments, list.tol, points, nodes, ends)
 }
 
-/// Stand in the buffers before they are lent, and must stand where nothing was written.
-const NUMBER: f64 = -1.234567890123e-67;
+/// Stands in the nodes and ends of a buffer before it is lent, and must stand where nothing was written.
 const NODE: u32 = 0xdead_beef;
 
 /// How far a buffer is watched beyond what is lent.
@@ -63,7 +62,7 @@ pub fn judge(
         nodes,
         ends,
     } = buffers;
-    lend(points, lent[0], NUMBER);
+    lend(points, lent[0], UNTOUCHED);
     lend(nodes, lent[1], NODE);
     lend(ends, lent[2], NODE);
     let told = stitch(
@@ -82,10 +81,13 @@ pub fn judge(
     let (points, points_rest) = points.split_at(2 * told.points);
     let (nodes, nodes_rest) = nodes.split_at(told.nodes);
     let (ends, ends_rest) = ends.split_at(told.loops);
-    let untouched = points_rest.iter().all(|x| x.to_bits() == NUMBER.to_bits())
-        && nodes_rest.iter().chain(ends_rest).all(|&x| x == NODE);
-    if !untouched {
+    let as_before =
+        points_rest.iter().all(untouched) && nodes_rest.iter().chain(ends_rest).all(|&x| x == NODE);
+    if !as_before {
         return wrong("wrote beyond the answer");
+    }
+    if points.iter().any(untouched) {
+        return wrong("left a number unwritten");
     }
     let rules = oracle::stitch(Build::ByRules, &list.segments, list.tol);
     let same_points = agree(same, points, rules.points.as_flattened());
@@ -266,7 +268,7 @@ mod tests {
         for short in 0..3 {
             let mut lent = [12, 3, 1];
             lent[short] -= 1;
-            let (mut points, mut nodes, mut ends) = ([NUMBER; 12], [NODE; 3], [NODE; 1]);
+            let (mut points, mut nodes, mut ends) = ([UNTOUCHED; 12], [NODE; 3], [NODE; 1]);
             let told = ours(
                 &list,
                 &mut points[..lent[0]],
@@ -274,7 +276,7 @@ mod tests {
                 &mut ends[..lent[2]],
             );
             assert_eq!(told.fitted, 0);
-            assert!(points.iter().all(|&x| x == NUMBER));
+            assert!(points.iter().all(untouched));
             assert!(nodes.iter().chain(&ends).all(|&x| x == NODE));
         }
     }

@@ -1,6 +1,6 @@
 //! The four counts of edges, from a walk of the test's own: the Rust returns points and loops only.
 
-/// Document 01's counts of edges.
+/// The rules' counts of edges.
 #[derive(Clone, Copy, Debug, Default, PartialEq, Eq)]
 pub struct Edges {
     pub listed: usize,
@@ -18,7 +18,7 @@ impl Edges {
     }
 }
 
-/// The edges of loops, of flat and of open walks, walked once more from document 01's words.
+/// The edges of loops, of flat and of open walks, walked once more from the rules' words.
 pub fn walked(points: &[[f64; 2]], edges: &[(usize, usize)], tol: f64) -> Edges {
     let mut free = vec![true; edges.len()];
     let mut count = Edges {
@@ -103,7 +103,7 @@ mod tests {
     use super::*;
     use oracle::counts::listed;
 
-    /// The walk gives the counts of document 01's cases 6, 7, 9 and 10.
+    /// The walk gives the counts of the rules' cases 6, 7, 9 and 10.
     #[test]
     fn the_walk_counts_as_document_01() {
         let count = |corners: &[[f64; 2]]| {

@@ -1,7 +1,7 @@
 //! Counts of edges that can be had beside the Rust's answer.
 //!
 //! slice.rs returns points and loops only. The listed edges are found here once more, from
-//! document 01's words, and the edges in loops from the loops. What is listed and in no loop
+//! the rules' words, and the edges in loops from the loops. What is listed and in no loop
 //! is flat or open; the answer does not tell which.
 
 use crate::{Section, Segment};

@@ -4,7 +4,7 @@
 //! cells deduplicated, over plain numbers. Each takes the [`Build`] to ask.
 //!
 //! A panic of the Rust is caught, step by step, and becomes a [`Stop`]. The steps are tried in
-//! document 01's order, which the Rust itself does not have.
+//! the rules' order, which the Rust itself does not have.
 
 use std::cell::Cell as Flag;
 use std::panic::{catch_unwind, set_hook, take_hook, AssertUnwindSafe};
@@ -27,9 +27,9 @@ pub type Segment<const D: usize> = [[f64; D]; 2];
 pub enum Build {
     /// The source unchanged.
     Rust,
-    /// The junction compares cosines, as document 01 says; nothing else is changed.
+    /// The junction compares cosines, as docs/RULES.md says; nothing else is changed.
     ByCosine,
-    /// As `ByCosine`, and sums start at plus zero: document 01 to the bit, NaNs being alike.
+    /// As `ByCosine`, and sums start at plus zero: docs/RULES.md to the bit, NaNs being alike.
     ByRules,
 }
 
@@ -45,7 +45,7 @@ macro_rules! ask {
     };
 }
 
-/// Why there is no answer. The numbers are document 01's.
+/// Why there is no answer. The numbers are the rules'.
 #[derive(Clone, Copy, Debug, PartialEq, Eq)]
 pub enum Stop {
     /// No such type, or slice.rs panics on it.
@@ -284,9 +284,14 @@ thread_local! {
     static QUIET: Flag<bool> = const { Flag::new(false) };
 }
 
-/// What `work` gives, or `stop` if it panics. Nothing is printed then; panics elsewhere are
-/// told as before.
+/// What `work` gives, or `stop` if it panics.
 fn caught<R, E>(stop: E, work: impl FnOnce() -> R) -> Result<R, E> {
+    quietly(work).map_err(|_| stop)
+}
+
+/// What `work` gives, or what it panics with. Nothing is printed then; panics elsewhere are
+/// told as before.
+fn quietly<R>(work: impl FnOnce() -> R) -> std::thread::Result<R> {
     static HOOK: Once = Once::new();
     HOOK.call_once(|| {
         let before = take_hook();
@@ -299,7 +304,7 @@ fn caught<R, E>(stop: E, work: impl FnOnce() -> R) -> Result<R, E> {
     QUIET.set(true);
     let outcome = catch_unwind(AssertUnwindSafe(work));
     QUIET.set(false);
-    outcome.map_err(|_| stop)
+    outcome
 }
 
 #[cfg(test)]

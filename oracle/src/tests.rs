@@ -154,6 +154,64 @@ fn slice_panics_on_types_of_another_dimension() {
     assert_eq!(ElementType::of_number(19), None);
 }
 
+/// The words with which `work` panics.
+fn panic_of<R>(work: impl FnOnce() -> R) -> String {
+    let Err(panic) = quietly(work) else {
+        panic!("no panic");
+    };
+    let fixed = panic.downcast_ref::<&str>().map(|words| words.to_string());
+    fixed.unwrap_or_else(|| *panic.downcast::<String>().unwrap())
+}
+
+/// A mesh of one cell in space, cut by the Rust as it stands.
+fn slice_of(number: u8, nodes: &[usize], origin: &[f64], normal: &[f64]) -> UMesh {
+    let mut mesh = UMesh::new(rows(3, tet().coords).unwrap().to_shared());
+    mesh.add_element(ElementType::of_number(number).unwrap(), nodes, None);
+    rust::slice(&mesh.view(), origin, normal)
+}
+
+/// The inputs of docs/DIFFERENCES.md, 'Where the Rust panics': we refuse them with 1, 4, 5 and 6.
+#[test]
+fn the_rust_panics_where_we_refuse() {
+    let four = [0, 1, 2, 3];
+    let as_volume = |number| {
+        let kind = ElementType::of_number(number).unwrap();
+        let cell = Element::alone(kind, &four, rows(3, tet().coords).unwrap());
+        panic_of(|| rust::reach::section_cell_by_plane(&cell, &[0.0; 3], &UP, &UP, &UP, 0.0))
+    };
+    assert_eq!(as_volume(8), "Cannot slice a QUAD4 cell as a 3D volume");
+    assert_eq!(slice_of(8, &four, &[0.0; 3], &UP).elements().count(), 0);
+
+    // the words are the stand-in's
+    let no_row = panic_of(|| slice_of(12, &[0, 1, 2, 9], &[0.0; 3], &UP));
+    assert_eq!(no_row, "row 9 of a table of 4");
+
+    let short = panic_of(|| slice_of(12, &four, &[0.0; 2], &UP));
+    assert!(
+        short.contains("The slice origin must have the same dimension"),
+        "{short}"
+    );
+    let short = panic_of(|| slice_of(12, &four, &[0.0; 3], &[1.0; 2]));
+    assert!(
+        short.contains("The slice normal must have the same dimension"),
+        "{short}"
+    );
+
+    let zero = "The slice normal must not be zero";
+    for normal in [
+        [0.0; 3],
+        [5e-324; 3],
+        [f64::NAN; 3],
+        [f64::INFINITY, 0.0, 0.0],
+    ] {
+        assert_eq!(panic_of(|| slice_of(12, &four, &[0.0; 3], &normal)), zero);
+    }
+    assert_eq!(
+        panic_of(|| rust::reach::line_vectors(&[1e200, 0.0, 0.0])),
+        zero
+    );
+}
+
 #[test]
 fn stops_come_in_rising_order() {
     let cut = |number, nodes, coords: &[f64], normal| {

@@ -1,8 +1,8 @@
-"""meshio's types of cells, and document 01's types that they are cut as.
+"""meshio's types of cells, and the rules' types that they are cut as.
 
-Only corners matter for a cut, and in all of meshio's types below they come first and in document 01's order: for
+Only corners matter for a cut, and in all of meshio's types below they come first and in the rules' order: for
 a wedge 0 1 2 and 3 4 5 above them, for a brick 0 1 2 3 and 4 5 6 7 above them. So a cell is handed over as it stands.
-Where document 01 has no type with as many nodes (20 or 27 for a brick, 18 for a wedge), the corners alone are
+Where docs/RULES.md has no type with as many nodes (20 or 27 for a brick, 18 for a wedge), the corners alone are
 handed over, as the type without mid-side nodes. Its faces are the same. Pyramids and prisms over five or six sides have
 no type of their own there: they are handed over by their faces, as polyhedra. Edges are straight between corners.
 """
@@ -26,7 +26,7 @@ def prism_faces(n: int) -> Faces:
     return (tuple(range(n - 1, -1, -1)), tuple(range(n, 2 * n)), *sides)
 
 
-# Faces by positions in the connectivity: document 01, 'The cell'; of the others, meshio's order of corners.
+# Faces by positions in the connectivity: docs/RULES.md, 'The cell'; of the others, meshio's order of corners.
 TET_FACES: Faces = ((0, 1, 3), (1, 2, 3), (2, 0, 3), (0, 2, 1))
 WEDGE_FACES: Faces = ((0, 2, 1), (3, 4, 5), (0, 1, 4, 3), (1, 2, 5, 4), (2, 0, 3, 5))
 HEX_FACES: Faces = ((0, 3, 2, 1), (4, 5, 6, 7), (0, 1, 5, 4), (2, 3, 7, 6), (1, 2, 6, 5), (3, 0, 4, 7))
@@ -35,7 +35,7 @@ PYRAMID_FACES: Faces = ((0, 3, 2, 1), (0, 1, 4), (1, 2, 4), (2, 3, 4), (3, 0, 4)
 
 @dataclass(frozen=True)
 class CellType:
-    """How a meshio type is cut: document 01's number, the nodes handed over, the corners, the faces in space."""
+    """How a meshio type is cut: the rules' number, the nodes handed over, the corners, the faces in space."""
 
     number: int
     nodes: int

@@ -226,6 +226,8 @@ class Mesh:
 
 def read(path: str | Path) -> Mesh:
     """The mesh in a file of any format that meshio reads."""
+    if isinstance(path, (str, Path)):
+        _check_file(path)
     said = io.StringIO()
     try:
         with contextlib.redirect_stderr(said), contextlib.redirect_stdout(said):
@@ -243,6 +245,13 @@ def read(path: str | Path) -> Mesh:
     mesh.stamp = (seen.st_mtime_ns, seen.st_size)
     mesh.remarks = [" ".join(part.split()) for part in _words(said).split("Warning:")[1:]]  # before: other readers' complaints
     return mesh
+
+
+def _check_file(path: str | Path) -> None:
+    if not os.path.exists(path):
+        raise MeshError(f"{path}: there is no such file; check its name, and give its path from the current folder or its whole path")
+    if os.path.isdir(path):
+        raise MeshError(f"{path}: this is a folder; give the path of a mesh file")
 
 
 def _words(said: io.StringIO) -> str:

@@ -1,4 +1,4 @@
-"""Where the cut is: document 01's unit vectors, planes and distances, by its operations in its order.
+"""Where the cut is: the rules' unit vectors, planes and distances, by their operations in their order.
 
 The distances decide which cells are left out before any call. By theorem `left-out` (crates/clip/specs/Clear.antt) a
 face has no segment if its corners are all above tol or all below -tol, and tol is not negative. The theorem speaks

@@ -25,8 +25,8 @@ class PlaneCut(Published):
     """The polygons of a cut, and the account of every listed edge.
 
     Points are in the plane, from its origin; `in_space()` gives them in space. Polygons are simple rings: ring k has the
-    points nodes[ends[k - 1]:ends[k]] (from 0 for the first), counter-clockwise, or clockwise where it bounds a hole.
-    `shapes()` puts outer rings and holes together.
+    points nodes[ends[k - 1]:ends[k]] (from 0 for the first), counter-clockwise, or clockwise where it bounds a hole; of a
+    very thin ring rounding decides it. `shapes()` puts outer rings and holes together.
     """
 
     mesh: Mesh

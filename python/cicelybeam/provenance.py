@@ -65,9 +65,9 @@ def proved(cut: PlaneCut | LineCut) -> list[tuple[str, str]]:
         edges = ("Proved: the segments that a cell gives are those of the rules of the port, for any cell, line and tolerance, or a "
                  "refusal by number.")
     return [
-        (edges, "The auditor's two questions" if isinstance(cut, PlaneCut) else "Claims"),
+        (edges, "The auditor's two questions" if isinstance(cut, PlaneCut) else "Promises"),
         ("Proved: a cell with all corners on one side of the cut, beyond the tolerance, has no edge in it, so that it is right to "
-         "leave it out.", "Claims"),
+         "leave it out.", "Promises"),
         ("Not proved: an edge that a face does not give is in no count; the package looks for such faces and tells them, by tests "
          "and not by proof.", "Where the claim ends"),
         ("Tested, not proved: reading the mesh, cutting polygons into rings, areas, groups, the estimate of what is lost, this "

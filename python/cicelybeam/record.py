@@ -380,7 +380,7 @@ def _warnings(record: PlaneRecord, remarks: list[str]) -> list[str]:
         found.append(f"{number(record.doubled_polygons, 'polygon')} of cells that the plane passes through coincide with another one: "
                      "the mesh has cells twice; they are counted once")
     if record.not_finite:
-        found.append("cells with NaN or infinite corner coordinates are cut as document 01 says, a NaN distance as outside")
+        found.append("cells with NaN or infinite corner coordinates are cut as docs/RULES.md says, a NaN distance as outside")
     if any(record.not_cut_reached.values()):
         found.append(f"cells of types that are not cut may reach the plane: {counted(record.not_cut_reached)}")
     return found

@@ -22,7 +22,8 @@ NEARLY = 1e-9  # of an area: what two rings may share by rounding without crossi
 
 @dataclass
 class Rings:
-    """Simple rings, cell by cell, in the form of loops. Holes run clockwise and have negative areas."""
+    """Simple rings, cell by cell, in the form of loops. Holes run clockwise and have negative areas. A ring that is a whole loop
+    runs as the library gives it, counter-clockwise but for rounding."""
 
     points: np.ndarray  # those of the loops, then those where rings cross
     nodes: np.ndarray

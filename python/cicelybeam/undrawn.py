@@ -117,7 +117,7 @@ def _segments_of(cut: PlaneCut, cell: int) -> list[Segment]:
 
 
 def face_segments(corners: list[Point], plane: place.Frame, tol: float) -> list[Segment]:
-    """The segments of one face, by document 01's rule ('The segment') in its order of operations.
+    """The segments of one face, by the rules (docs/RULES.md, 'The segments of a polygon') in their order of operations.
 
     The library counts the edges that they become, and tells only those that are drawn.
     """

@@ -158,7 +158,6 @@ def test_line_in_a_plane_mesh(tmp_path):
 
 
 @pytest.mark.parametrize("name,content,words", [
-    ("missing.vtu", None, "not found"),
     ("empty.vtu", b"", "cannot read"),
     ("empty.msh", b"", "cannot read"),
     ("empty.vtk", b"", "cannot read"),
@@ -168,12 +167,24 @@ def test_line_in_a_plane_mesh(tmp_path):
 ], ids=lambda value: value if isinstance(value, str) else "")
 def test_files_that_cannot_be_read(tmp_path, capsys, name, content, words):
     path = tmp_path / name
-    if content is not None:
-        path.write_bytes(content)
+    path.write_bytes(content)
     assert run("plane", path, *PLANE) == 1
     said = capsys.readouterr()
     assert name in said.err and said.out == ""
     assert words in said.err
+
+
+@pytest.mark.parametrize("name", ["missing.vtu", "missing.msh", "missing", "no folder/missing.vtu"])
+def test_file_that_is_not_there(tmp_path, capsys, name):
+    assert run("plane", tmp_path / name, *PLANE) == 1
+    said = capsys.readouterr()
+    told = "there is no such file; check its name, and give its path from the current folder or its whole path"
+    assert said.err == f"cicelybeam: {tmp_path / name}: {told}\n" and said.out == ""
+
+
+def test_folder_in_place_of_a_file(tmp_path, capsys):
+    assert run("plane", tmp_path, *PLANE) == 1
+    assert capsys.readouterr().err == f"cicelybeam: {tmp_path}: this is a folder; give the path of a mesh file\n"
 
 
 def test_truncated_files(path, tmp_path, capsys):

@@ -1,4 +1,4 @@
-"""meshio's types are handed over as document 01's: corners in order, faces as positions."""
+"""meshio's types are handed over as the rules have them: corners in order, faces as positions."""
 import meshio
 import numpy as np
 import pytest

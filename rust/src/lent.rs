@@ -1,5 +1,6 @@
 //! The functions as C has them, over buffers that the caller lends: nothing is allocated, and any type number
-//! may be given. What lies beyond an answer keeps its contents, and on a refusal nothing is written.
+//! may be given. What lies beyond an answer keeps its contents, and on a refusal nothing is written: proved up to the
+//! bits of a NaN, of which the proofs know one, and shown by runs.
 //!
 //! The least lengths, with m the corners of all kept faces ([`SpaceType::face_corners`](crate::SpaceType)):
 //!

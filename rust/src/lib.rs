@@ -75,6 +75,10 @@ pub fn cut_by_plane(
 
 /// The part of the line through `origin` with this direction that lies in a space cell, as segments.
 ///
+/// The cell is cut by a plane that holds the line, and the line cuts the loops of that section. Flat and open
+/// pieces of the section are dropped, and nothing tells of it: to know, [`cut_by_plane`] by a plane that holds the
+/// line.
+///
 /// ```
 /// use cicelybeam::{cut_by_line, SpaceType};
 ///

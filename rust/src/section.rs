@@ -8,7 +8,7 @@ use crate::Refusal;
 pub struct Section {
     /// The points, in the plane's own coordinates, from the cut's origin.
     pub points: Vec<[f64; 2]>,
-    /// The nodes of loop after loop: numbers of points.
+    /// The nodes of loop after loop: numbers of points, each less than `points.len()`.
     pub nodes: Vec<u32>,
     /// The number of nodes up to and with each loop.
     pub ends: Vec<u32>,
@@ -18,7 +18,8 @@ pub struct Section {
 
 /// The listed edges of a cut, counted: `listed` is always the sum of the other three.
 ///
-/// A segment whose ends are one point within the tolerance is no edge, and one that repeats an edge adds none.
+/// A listed edge joins two different points, and no two of them join the same two. None is in two loops, or twice
+/// in one. A segment whose ends are one point within the tolerance is no edge, and one that repeats an edge adds none.
 #[derive(Clone, Copy, Debug, Default, PartialEq, Eq)]
 pub struct Edges {
     /// All edges between two different points.
@@ -39,7 +40,9 @@ impl Edges {
 }
 
 impl Section {
-    /// The nodes of each loop, at least three, counter-clockwise (by its rounded area).
+    /// The nodes of each loop, at least three, in the order walked, or all in reverse where the walk's rounded area
+    /// is negative. So a loop runs counter-clockwise but for rounding: a very thin one can have a negative rounded
+    /// area both ways.
     pub fn loops(&self) -> impl Iterator<Item = &[u32]> {
         let starts = std::iter::once(&0).chain(&self.ends);
         starts

@@ -70,11 +70,18 @@ fn other_numbers_are_no_type() {
     }
 }
 
+/// A NaN of an unusual payload: what is not written keeps its bits.
+const UNTOUCHED: u64 = 0xfff4_1234_5678_9abc;
+
+fn untouched(numbers: &[f64]) -> bool {
+    numbers.iter().all(|x| x.to_bits() == UNTOUCHED)
+}
+
 /// The tetrahedron's nodes as a cell of this type, in buffers of these lengths that must stay as they were on a
 /// refusal.
 fn cut(number: u8, lent: [usize; 3]) -> Result<lent::Written, Refusal> {
-    let (mut numbers, mut nodes, mut ends) =
-        (vec![7.; lent[0]], vec![7; lent[1]], vec![7; lent[2]]);
+    let mut numbers = vec![f64::from_bits(UNTOUCHED); lent[0]];
+    let (mut nodes, mut ends) = (vec![7; lent[1]], vec![7; lent[2]]);
     let into = lent::Buffers {
         numbers: &mut numbers,
         nodes: &mut nodes,
@@ -82,10 +89,28 @@ fn cut(number: u8, lent: [usize; 3]) -> Result<lent::Written, Refusal> {
     };
     let found = lent::cut_by_plane(number, &NODES, &TET, &LOW, &UP, 0., into);
     if found.is_err() {
-        assert!(numbers.iter().all(|&x| x == 7.));
+        assert!(untouched(&numbers));
         assert!(nodes.iter().chain(&ends).all(|&x| x == 7));
     }
     found
+}
+
+/// On these inputs mefikit's Rust panics (docs/DIFFERENCES.md).
+#[test]
+fn where_the_rust_panics_there_is_a_refusal() {
+    let tet = SpaceType::Tet4;
+    let by = |nodes: &[u64], origin: &[f64], normal: &[f64]| {
+        cut_by_plane(tet, nodes, &TET, origin, normal, 0.).unwrap_err()
+    };
+    assert_eq!(cut(8, [72, 18, 6]), Err(Refusal::Type));
+    assert_eq!(by(&[0, 1, 2, 9], &[0.; 3], &UP), Refusal::NoSuchRow);
+    assert_eq!(by(&NODES, &[0.; 2], &UP), Refusal::VectorLength);
+    assert_eq!(by(&NODES, &[0.; 3], &[1.; 2]), Refusal::VectorLength);
+    for normal in [[0.; 3], [5e-324; 3], [f64::NAN; 3], [f64::INFINITY, 0., 0.]] {
+        assert_eq!(by(&NODES, &[0.; 3], &normal), Refusal::NoDirection);
+    }
+    let along = cut_by_line(tet, &NODES, &TET, &[0.; 3], &[1e200, 0., 0.], 0.);
+    assert_eq!(along, Err(Refusal::NoDirection));
 }
 
 #[test]
@@ -95,9 +120,9 @@ fn short_buffers_are_refused() {
         assert_eq!(cut(12, short), Err(Refusal::ShortBuffer));
     }
     let line = |room| {
-        let mut numbers = vec![7.; room];
+        let mut numbers = vec![f64::from_bits(UNTOUCHED); room];
         let found = lent::cut_by_line(12, &NODES, &TET, &LOW, &[1., 1., 0.], 1e-12, &mut numbers);
-        assert!(found.is_ok() || numbers.iter().all(|&x| x == 7.));
+        assert!(found.is_ok() || untouched(&numbers));
         found
     };
     assert!(line(168).is_ok());

@@ -1,4 +1,4 @@
-//! Document 01's worked cases.
+//! The worked cases of docs/RULES.md.
 
 use cicelybeam::*;
 

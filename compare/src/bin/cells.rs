@@ -1,4 +1,4 @@
-//! Holds the entries of Cicelybeam's interface against mefikit's Rust and document 01's refusals. The number
+//! Holds the entries of Cicelybeam's interface against mefikit's Rust and the rules' refusals. The number
 //! is that of plane cuts; every other entry has a quarter of it.
 
 use compare::cases_asked;
@@ -31,7 +31,7 @@ fn main() -> ExitCode {
     let cases = cases_asked("cells", FULL);
     let start = Instant::now();
     let mut differing = 0;
-    println!("entries, to the bit as by the rules, and alike to the Rust's:");
+    println!("entries, with the bits of the rules, NaN alike, and alike to the Rust's:");
     for (entry, name) in ENTRIES {
         let cases = if entry == Entry::Plane {
             cases

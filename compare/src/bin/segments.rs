@@ -15,7 +15,7 @@ fn main() -> ExitCode {
     for found in [width::<3>("space", cases), width::<2>("the plane", cases)] {
         differing += found.differing;
     }
-    println!("vectors, to the bit as by the rules, and alike to the Rust's:");
+    println!("vectors, with the bits of the rules, NaN alike, and alike to the Rust's:");
     for (name, judge) in vectors::KINDS {
         let found = vectors::compare(judge, cases / 5);
         found.print(name, "give some");
@@ -30,7 +30,7 @@ fn main() -> ExitCode {
 
 /// Every group at one width, printed.
 fn width<const D: usize>(name: &str, cases: u64) -> Found {
-    println!("faces in {name}, to the bit as by the rules, and alike to the Rust's:");
+    println!("faces in {name}, with the bits of the rules, NaN alike, and alike to the Rust's:");
     let mut all = Found::default();
     for group in &groups::<D>() {
         let found = segments::compare(group, cases, segments::ours);

@@ -12,7 +12,7 @@ const FULL: u64 = 8_000_000;
 fn main() -> ExitCode {
     let cases = cases_asked("stitching", FULL);
     let start = Instant::now();
-    println!("lists stitched, to the bit as by the rules, and alike to the Rust's:");
+    println!("lists stitched, with the bits of the rules, NaN alike, and alike to the Rust's:");
     let mut all = Stitchings::default();
     for group in &GROUPS {
         let group_found = compare(group, cases, ours);

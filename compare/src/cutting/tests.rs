@@ -141,6 +141,14 @@ fn a_touched_remainder_is_seen() {
             }
         })
     });
+    // a NaN of other bits
+    seen(&CUTS, |case, lent| {
+        rewritten(case, lent, |_, lent| {
+            if let Some(last) = lent.numbers.last_mut() {
+                *last = f64::NAN;
+            }
+        })
+    });
     seen(&SECTIONS, |case, lent| {
         rewritten(case, lent, |told, lent| {
             if let Some(next) = lent.nodes.get_mut(told.nodes as usize) {
@@ -172,7 +180,7 @@ fn a_buffer_touched_on_refusal_is_seen() {
 #[test]
 fn an_unwritten_buffer_is_seen() {
     seen(&CUTS, |case, lent| {
-        rewritten(case, lent, |_, lent| lent.numbers.fill(NUMBER))
+        rewritten(case, lent, |_, lent| lent.numbers.fill(UNTOUCHED))
     });
     seen(&SECTIONS, |case, lent| {
         rewritten(case, lent, |_, lent| lent.nodes.fill(NODE))

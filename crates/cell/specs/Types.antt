@@ -1,4 +1,4 @@
--- The types of a cell, with the number, the node count and the corner count that document 01 gives each. Definitions only.
+-- The types of a cell, with the number, the node count and the corner count that docs/RULES.md gives each. Definitions only.
 use Prim.Native.Nat.{ℕ}
 use mathlib.Core.Bool.{Bool, cond}
 use lib.Dec.{eqb, leb}

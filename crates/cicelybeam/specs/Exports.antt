@@ -6,7 +6,7 @@ use Rattle.cicelybeam.specs.declared.Section.{Section}
 use Rattle.cicelybeam.specs.declared.Line.{Line}
 use Rattle.cicelybeam.specs.declared.Tolerance.{Tolerance}
 
--- a section's numbers, as document 01 has them
+-- a section's numbers, as docs/RULES.md has them
 abbrev pub toldIn : Section → Told
 toldIn r =
     record {

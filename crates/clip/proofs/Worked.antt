@@ -1,4 +1,4 @@
--- Sections worked out by computing the definitions: the faces of document 01's brick and tetrahedron, and what NaN does. Assumes nothing.
+-- Sections worked out by computing the definitions: the faces of the rules' brick and tetrahedron, and what NaN does. Assumes nothing.
 use mathlib.Core.Path.{_≡_, refl}
 use mathlib.Core.List.{List, [], _∷_}
 use mathlib.Core.Bool.{true, false}

@@ -1,4 +1,4 @@
--- The segments of a cell's faces in the coordinates of the cutting plane, and what document 01 says of their number.
+-- The segments of a cell's faces in the coordinates of the cutting plane, and what docs/RULES.md says of their number.
 -- Definitions and statements only; the theorems are in proofs/Bound.antt.
 use mathlib.Core.List.{List, [], _∷_, _++_, map}
 use Prim.Native.Nat.{ℕ, _+_, _-_, _*_, _/_, _≤_}

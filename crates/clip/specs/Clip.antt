@@ -1,5 +1,5 @@
--- The section of a polygon by a plane in space or a line in the plane, over points of any width: document 01's "The segment".
--- Definitions only. What document 01 says of the number of points and segments is in Cell.antt.
+-- The section of a polygon by a plane in space or a line in the plane, over points of any width: "The segments of a polygon" of docs/RULES.md.
+-- Definitions only. What docs/RULES.md says of the number of points and segments is in Cell.antt.
 use mathlib.Core.List.{List, [], _∷_, _++_}
 use mathlib.Core.Bool.{Bool, true, false, not, _&&_, _||_, cond}
 use Prim.Native.Nat.{_-_}

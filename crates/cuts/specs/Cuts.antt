@@ -1,4 +1,4 @@
--- What all cuts of document 01 share: how a cut is placed, the order of their refusals, and the section of a cell by a plane.
+-- What all cuts of docs/RULES.md share: how a cut is placed, the order of their refusals, and the section of a cell by a plane.
 -- Definitions only.
 use mathlib.Core.List.{List, flatten}
 use mathlib.Core.Bool.{_&&_}

@@ -18,7 +18,7 @@ abbrev pub toldLine : Outcome (List Seg) → ToldLine
 toldLine (refused k) = record { refusal = k; segments = 0 }
 toldLine (found ss) = record { refusal = 0; segments = length ss }
 
--- document 01's number and value for each case of the code's answer
+-- the rules' number and value for each case of the code's answer
 abbrev pub lineTold : L.Line → ToldLine
 lineTold (l.Refused k) = record { refusal = k; segments = 0 }
 lineTold (l.Cut r) = record { refusal = 0; segments = r .segments }

@@ -1,4 +1,4 @@
--- The line cut of a cell in space, as an equation over every input: one cell of `slice_line_3d`; and what document 01 says of it.
+-- The line cut of a cell in space, as an equation over every input: one cell of `slice_line_3d`; and what docs/RULES.md says of it.
 -- Definitions and statements only; the theorems are in proofs/Sections.antt and proofs/Claims.antt.
 use mathlib.Core.Path.{_≡_}
 use mathlib.Core.List.{List, [], _∷_, _++_, map}
@@ -50,7 +50,7 @@ lineIn tol a m ps f = unless 7 (leb (14 * m) a) (found (lineOfSection f tol (sec
 abbrev pub lineCut : Cell → Through → Float → ℕ → Outcome (List Seg)
 lineCut k g tol a = cutCell (spaceCell k) (placeIn Direction g) (lineIn tol a)
 
--- ---- what document 01 says of it
+-- ---- what docs/RULES.md says of it
 
 -- A cell in space with m face corners gives at most 9m / 4 segments on a line: its section has at most floor(3m / 2) nodes, and a loop of
 -- n nodes gives at most floor(3n / 2) segments. So 14m numbers hold them, six a segment.

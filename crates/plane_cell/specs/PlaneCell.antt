@@ -1,5 +1,5 @@
 -- The line cut of a cell in the plane, as an equation over every input: one cell of `slice_2d`, by normal, or by direction as `slice_line`
--- does; and what document 01 says of it. Definitions and statements only; the theorems are in proofs/Claims.antt.
+-- does; and what docs/RULES.md says of it. Definitions and statements only; the theorems are in proofs/Claims.antt.
 use mathlib.Core.Path.{_≡_}
 use mathlib.Core.List.{List, [], _∷_}
 use Prim.Native.Nat.{ℕ, _*_, _≤_}
@@ -46,7 +46,7 @@ segmentsIn a m ps l = unless 7 (leb (6 * m) a) (found (polygonSegments l ps))
 abbrev pub planeCellCut : W.Way → Cell → Through → Float → ℕ → Outcome (List Seg)
 planeCellCut way k g tol a = cutCell (planeCell k) (lineThrough way g tol) (segmentsIn a)
 
--- ---- what document 01 says of it
+-- ---- what docs/RULES.md says of it
 
 -- Whatever is handed over, the cut answers with a refusal from 1 to 7 or with at most 384 segments.
 abbrev pub PlaneCellSound : Type 0

@@ -1,5 +1,5 @@
--- The plane cut of a cell in space, as an equation over every input: `section_cell_by_plane` after `slice_3d`'s vectors; and what document
--- 01 says of it. Definitions and statements only; the theorems are in proofs/Claims.antt.
+-- The plane cut of a cell in space, as an equation over every input: `section_cell_by_plane` after `slice_3d`'s vectors; and what docs/RULES.md
+-- says of it. Definitions and statements only; the theorems are in proofs/Claims.antt.
 use mathlib.Core.Path.{_≡_}
 use mathlib.Core.List.{List}
 use Prim.Native.Nat.{ℕ, _*_, _/_, _≤_}
@@ -52,7 +52,7 @@ AlikeByPlane =
 
 -- ---- the claim about stitching, of what the cut gave
 
--- The answer a is the section of a cell by a plane: the cell was read, the plane was placed, and the claim of document 01 holds of the
+-- The answer a is the section of a cell by a plane: the cell was read, the plane was placed, and the claim holds of the
 -- segments of its faces, at most 384, and of a.
 pub record PlaneSection (k : Cell) (g : Through) (tol : Float) (a : Answer) : Type 0 where
   pub polygons : List Polygon

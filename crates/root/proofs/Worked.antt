@@ -1,4 +1,4 @@
--- Roots that antt computes, case 12 of document 01 among them. Assumes nothing.
+-- Roots that antt computes, case 12 of docs/RULES.md among them. Assumes nothing.
 use mathlib.Core.Path.{_≡_, refl}
 use mathlib.Core.List.{[], _∷_, map}
 use Prim.Native.Nat.{ℕ}

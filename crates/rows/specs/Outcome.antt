@@ -1,4 +1,4 @@
--- What can be refused: document 01's number of a refusal, or what was asked for; and the steps that refuse, in order. Definitions only.
+-- What can be refused: the rules' number of a refusal, or what was asked for; and the steps that refuse, in order. Definitions only.
 use mathlib.Core.Bool.{Bool, true, false}
 use Prim.Native.Nat.{ℕ, _≤_}
 

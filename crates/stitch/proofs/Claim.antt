@@ -1,4 +1,4 @@
--- The claim of document 01, whole: of every list of segments, every tolerance and the answer that stitching gives. Assumes nothing.
+-- The claim, whole: of every list of segments, every tolerance and the answer that stitching gives. Assumes nothing.
 use mathlib.Core.Path.{_≡_, refl, sym, _∙_}
 use mathlib.Core.List.{List}
 use mathlib.Core.Bool.{true}

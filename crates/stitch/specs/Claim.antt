@@ -1,4 +1,4 @@
--- The claim of document 01 about a whole list of segments and the answer to it. Definitions only.
+-- The claim about a whole list of segments and the answer to it. Definitions only.
 -- That it holds of every list and every tolerance is `claim`, in proofs/Claim.antt.
 use mathlib.Core.Path.{_≡_}
 use mathlib.Core.List.{List, [], _∷_, _++_, flatten}

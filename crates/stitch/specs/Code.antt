@@ -191,7 +191,7 @@ answerIn r numbers nodes ends =
       counts = r .counts;
     }
 
--- What stitching does: it gives the answer of the definition, and the claim of document 01 holds of what it gives.
+-- What stitching does: it gives the answer of the definition, and the claim holds of what it gives.
 pub record Stitches (rule : Rule) (ss : List Seg) (r : Stitched) (numbers numbers′ : List Float) (nodes nodes′ ends ends′ : List ℕ) : Type 0
   where
     pub gave : Answered (stitchedWithin rule ss) r numbers numbers′ nodes nodes′ ends ends′

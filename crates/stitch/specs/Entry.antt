@@ -70,7 +70,7 @@ abbrev pub told : Outcome Answer → Told
 told (refused k) = toldRefused k
 told (found a) = toldAnswer a
 
--- document 01's number and values for each case of the code's answer
+-- the rules' number and values for each case of the code's answer
 abbrev pub sectionTold : S.Section → Told
 sectionTold (s.Refused k) = toldRefused k
 sectionTold (s.Cut r) = record { refusal = 0; answer = r .stitched }
@@ -103,7 +103,7 @@ stitchAlone xs tol l =
     let s = length xs / 4 in
     unless 8 (eqb (length xs % 4) 0 && leb s 384) (unless 7 (room (4 * s) s (s / 3) l) (found (stitched tol (segs 2 s xs))))
 
--- The answer a is the stitching of the segments that were handed over, and the claim of document 01 holds of it.
+-- The answer a is the stitching of the segments that were handed over, and the claim holds of it.
 pub record StitchSection (xs : List Float) (tol : Float) (a : Answer) : Type 0 where
   pub fours : length xs % 4 ≡ 0
   pub few : length xs / 4 ≤ 384

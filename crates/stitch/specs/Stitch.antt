@@ -1,4 +1,4 @@
--- Which walks are loops, and the answer of stitching: points, loops and the counts of document 01. Definitions only.
+-- Which walks are loops, and the answer of stitching: points, loops and the counts of docs/RULES.md. Definitions only.
 use mathlib.Core.List.{List, [], _∷_, reverse}
 use mathlib.Core.Bool.{Bool, true, false, cond}
 use Prim.Native.Nat.{ℕ, _+_}

@@ -1,4 +1,4 @@
--- The junction and the walk of document 01, over welded points and listed edges. Definitions only.
+-- The junction and the walk of docs/RULES.md, over welded points and listed edges. Definitions only.
 use mathlib.Core.List.{List, [], _∷_}
 use mathlib.Core.Bool.{Bool, true, false, not, _&&_, _||_, cond}
 use Prim.Native.Nat.{ℕ, zero, suc}

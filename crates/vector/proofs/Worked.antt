@@ -1,4 +1,4 @@
--- Worked cases of document 01 and others, by computing the definitions. Assumes nothing.
+-- Worked cases of docs/RULES.md and others, by computing the definitions. Assumes nothing.
 use mathlib.Core.Path.{_≡_, refl}
 use mathlib.Core.List.{[], _∷_}
 use mathlib.Core.Bool.{false}

@@ -1,4 +1,4 @@
--- The numbers that document 01 names, and the absolute value. Definitions only.
+-- The numbers that docs/RULES.md names, and the absolute value. Definitions only.
 use mathlib.Core.Bool.{true, false, cond}
 use lib.IntN.{pos, negsuc}
 use lib.Ieee.{Float, fin, lt, neg}

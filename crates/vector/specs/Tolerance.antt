@@ -1,4 +1,4 @@
--- The tolerance of coordinates, w a row: its definition, and what document 01 says of it. Definitions only.
+-- The tolerance of coordinates, w a row: its definition, and what docs/RULES.md says of it. Definitions only.
 -- That it holds of every tolerance is `tolerance-sound`, in proofs/Extents.antt.
 use mathlib.Core.Path.{_≡_}
 use mathlib.Core.List.{List, [], _∷_, map}
@@ -88,7 +88,7 @@ abbrev pub toldTolerance : Outcome Float → ToldTolerance
 toldTolerance (refused k) = record { refusal = k; value = f0 }
 toldTolerance (found x) = record { refusal = 0; value = x }
 
--- document 01's number and value for each case of the code's answer
+-- the rules' number and value for each case of the code's answer
 abbrev pub toleranceTold : T.Tolerance → ToldTolerance
 toleranceTold (t.Refused k) = record { refusal = k; value = f0 }
 toleranceTold (t.Of x) = record { refusal = 0; value = x }

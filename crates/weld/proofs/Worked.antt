@@ -27,7 +27,7 @@ beyond = fin false 3 (negsuc 0) ∷ f0 ∷ []
 abbrev quarter : Float
 quarter = fin false 1 (negsuc 1)
 
--- ---- document 01's triangle: (0,0)-(0,1), (0,1)-(1,0), (1,0)-(0,0)
+-- ---- the rules' triangle: (0,0)-(0,1), (0,1)-(1,0), (1,0)-(0,0)
 abbrev triangle : List Seg
 triangle = seg origin e-y ∷ seg e-y e-x ∷ seg e-x origin ∷ []
 

@@ -9,7 +9,7 @@ use lib.Ieee.{Float, le, add, sub, mul}
 use Rattle.vector.specs.Vector.{Vector, dist2}
 use Rattle.vector.specs.Rows.{Seg, seg}
 
--- ---- the welded point of document 01
+-- ---- the welded point of docs/RULES.md
 
 -- The place of the first point whose squared distance to p is at most tol2; the number of points where there is none. A NaN distance is at
 -- most nothing.
@@ -29,7 +29,7 @@ unfolding push
 pointsFrom tol2 [] qs = qs
 pointsFrom tol2 (seg p q ∷ ss) qs = pointsFrom tol2 ss (push q tol2 (push p tol2 qs))
 
--- ---- the edge of document 01: two points, smaller first
+-- ---- the edge of docs/RULES.md: two points, smaller first
 pub data Edge : Type 0 where
   edge : ℕ → ℕ → Edge
 

@@ -100,7 +100,7 @@ fn push_coord(points: &mut [f64], n: usize, p: Vec2, tol2: f64) -> Pushed
     }
 }
 
-// The number of the first of the n points within the tolerance of p, or n: the first, not the nearest (document 01).
+// The number of the first of the n points within the tolerance of p, or n: the first, not the nearest (docs/RULES.md).
 fn find(points: &[f64], n: usize, p: Vec2, tol2: f64) -> usize
     requires { ⌜ 2 * n ≤ length (now points) ⌝ }
     ensures { λ r. ⌜ r ≡ find (vec2 p) tol2 (rows 2 n (now (points .entry))) ⌝ }

@@ -1,4 +1,4 @@
--- The starred cases of document 01, as one claim that antt computes. Assumes nothing.
+-- The starred cases of docs/RULES.md, as one claim that antt computes. Assumes nothing.
 use mathlib.Core.Path.{refl}
 use Rattle.worked_table.specs.Table.{Worked, answered}
 

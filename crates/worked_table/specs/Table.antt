@@ -1,4 +1,4 @@
--- The starred cases of document 01 as one table: what is asked, and what the paper answers. Definitions only; that the definitions give
+-- The starred cases of docs/RULES.md as one table: what is asked, and what the paper answers. Definitions only; that the definitions give
 -- these answers is `worked`, in proofs/Table.antt.
 use mathlib.Core.Path.{_≡_}
 use mathlib.Core.List.{List, [], _∷_, flatten, map}
@@ -57,7 +57,7 @@ walked xs tol =
     let ss = segs 2 (length xs / 4) xs in
     map (λ w. w .nodes) (walks (weldedPoints t ss) (listedEdges t ss))
 
--- by the definitions, in buffers of the sizes that document 01 gives for 24 face corners, or for the segments
+-- by the definitions, in buffers of the sizes that docs/RULES.md gives for 24 face corners, or for the segments
 unfoldable pub answered : Asked → Answered
 unfolding flatten stretches kept spaceType readAs areRows leastAlignedAxis unit dotFrom tolerance planeSectionSegments mul stitchedWithin pointsFrom becomes edgesFrom walksFrom
 answered (faces c) = positions (facesOf Phed c)

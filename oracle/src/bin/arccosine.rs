@@ -1,5 +1,5 @@
-//! Finds segments on which the Rust, comparing arccosines, takes another edge than document
-//! 01's rule, comparing cosines. The arccosine is the C library's, so another machine may give
+//! Finds segments on which the Rust, comparing arccosines, takes another edge than
+//! the rules, comparing cosines. The arccosine is the C library's, so another machine may give
 //! other arccosines; the cosines are the same everywhere.
 //!
 //! The shape is always the same: a walk comes along (1,0) to (0,0), where two edges are nearly
@@ -109,7 +109,7 @@ fn show(above: [f64; 2], below: [f64; 2]) {
         println!("      arccosine {arc:?} {}", hex(arc));
     }
     answer("Rust       ", &stitch(Build::Rust, &segments, 0.0));
-    answer("document 01", &stitch(Build::ByCosine, &segments, 0.0));
+    answer("the rules  ", &stitch(Build::ByCosine, &segments, 0.0));
 }
 
 /// The same segments as the section of one PHED: walls of height 1 over them, cut half way up.
@@ -136,7 +136,7 @@ fn in_a_cell(above: [f64; 2], below: [f64; 2]) {
     let named: Vec<String> = nodes.iter().map(|&node| name(node)).collect();
     println!("  nodes {}", named.join(" "));
     answer("Rust       ", &cut(Build::Rust).unwrap());
-    answer("document 01", &cut(Build::ByCosine).unwrap());
+    answer("the rules  ", &cut(Build::ByCosine).unwrap());
 }
 
 /// Neighbouring cosines over the whole range: how often arccosines are equal, or reversed.

@@ -1,4 +1,4 @@
-//! Shows where a sum's start shows: this compiler's `sum()` starts at -0.0, document 01's
+//! Shows where a sum's start shows: this compiler's `sum()` starts at -0.0, the rules'
 //! sums at plus zero. `ByCosine` and `ByRules` differ in that alone.
 //!
 //! Why no answer differs by more than a zero's sign. Call two numbers alike if they compare
@@ -68,15 +68,12 @@ fn single_functions() {
     let (a, b) = ([-0.0, 0.0, 0.0], [1.0, -1.0, -1.0]);
     println!("dot of {a:?} and {b:?}:");
     println!("  Rust {:?}", rust::reach::dot(&a, &b));
-    println!("  document 01 {:?}", by_rules::reach::dot(&a, &b));
+    println!("  the rules {:?}", by_rules::reach::dot(&a, &b));
 
     let (p, o, u, v) = ([2.0; 3], [2.0; 3], [-1.0; 3], [-0.5; 3]);
     println!("project of {p:?} with that origin, u {u:?}, v {v:?}:");
     println!("  Rust {:?}", rust::reach::project(&p, &o, &u, &v));
-    println!(
-        "  document 01 {:?}",
-        by_rules::reach::project(&p, &o, &u, &v)
-    );
+    println!("  the rules {:?}", by_rules::reach::project(&p, &o, &u, &v));
 }
 
 /// The first small normal on which a whole cut shows it, through the tetrahedron's corner.
@@ -105,7 +102,7 @@ fn one_cut() {
         println!("TET4 (0,0,0) (1,0,0) (0,1,0) (0,0,1), origin (0,0,0), normal {normal:?}, tol 0:");
         println!("  Rust        {:?} loops {:?}", by_sum.points, by_sum.loops);
         println!(
-            "  document 01 {:?} loops {:?}",
+            "  the rules {:?} loops {:?}",
             by_rules.points, by_rules.loops
         );
         return;

@@ -1,4 +1,4 @@
-//! What the Rust gives for the fourteen cases that document 01 works by hand.
+//! What the Rust gives for the fourteen cases that docs/RULES.md works by hand.
 
 use oracle::counts::{counts, listed};
 use oracle::*;
@@ -13,7 +13,7 @@ const UP: [f64; 3] = [0.0, 0.0, 1.0];
 const MAX: usize = usize::MAX;
 
 fn main() {
-    println!("What slice.rs gives for the worked cases of document 01.");
+    println!("What slice.rs gives for the worked cases of docs/RULES.md.");
     println!("'listed' is derived here from the segments, 'in loops' from the loops returned.");
     println!("The Rust's answer does not tell flat edges from open ones: listed less in loops");
     println!("is both together. Stitched answers are the same in all three builds, unless said.");
@@ -165,7 +165,7 @@ fn told(what: &str, found: Result<usize, Stop>) -> Result<usize, Stop> {
     match found {
         Ok(0) => println!("   {what}: none"),
         Ok(count) => println!("   {what}: {count} points, loops or segments"),
-        Err(stop) => println!("   {what}: panics, document 01's {}", stop as u8),
+        Err(stop) => println!("   {what}: panics, the rules' {}", stop as u8),
     }
     found
 }
@@ -272,7 +272,7 @@ fn verdict(agrees: bool) {
         if agrees {
             "agrees"
         } else {
-            "DIFFERS from document 01"
+            "DIFFERS from docs/RULES.md"
         }
     );
 }
