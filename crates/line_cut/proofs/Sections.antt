@@ -21,8 +21,10 @@ use Rattle.clip.proofs.Bound.{cell-bound}
 use Rattle.clip.specs.Code.{Segments}
 use Rattle.weld.specs.Weld.{Edge, Within, between, listed, listedEdges, weldedPoints}
 use Rattle.weld.proofs.Edges.{listed-within, newer-unlisted}
-use Rattle.stitch.specs.Claim.{All, lastOr, sides, steps}
-use Rattle.stitch.specs.Code.{Answered, Below, cut}
+use Rattle.walk.specs.Walk.{All}
+use Rattle.stitch.specs.Claim.{lastOr, sides, steps}
+use Rattle.walk.specs.Code.{Below}
+use Rattle.stitch.specs.Code.{Answered, cut}
 use Rattle.stitch.specs.Stitch.{Answer, ruleOf, stitched}
 use Rattle.stitch.specs.declared.Stitched.{Stitched}
 use Rattle.stitch.proofs.Claim.{claim}

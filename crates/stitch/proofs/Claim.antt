@@ -9,10 +9,10 @@ use Rattle.vector.specs.Rows.{Seg}
 use Rattle.weld.specs.Weld.{weldedPoints, listedEdges}
 use Rattle.weld.proofs.Edges.{listed-simple, listed-distinct, listed-within, listed-few, points-at-most}
 use Rattle.stitch.specs.declared.Rule.{Rule}
-use Rattle.stitch.specs.Walk.{walks}
+use Rattle.walk.specs.Walk.{walks}
 use Rattle.stitch.specs.Stitch.{loops, stitchedWithin}
 use Rattle.stitch.specs.Claim.{Claim}
-use Rattle.stitch.proofs.Lists.{all-map}
+use Rattle.walk.proofs.Lists.{all-map}
 use Rattle.stitch.proofs.Once.{walked-once, walked-no-other, walked-fair, walked-all}
 use Rattle.stitch.proofs.Even.{closed-when-even}
 use Rattle.stitch.proofs.Joined.{Sound, all-joined, all-sound, sound-three}

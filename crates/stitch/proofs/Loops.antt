@@ -14,11 +14,13 @@ use Rattle.vector.specs.Vector.{Vector}
 use Rattle.weld.specs.Weld.{Edge, same, between, listed, Simple, Distinct}
 use Rattle.weld.proofs.Edges.{between-sym, same-eq, same-self, listed-at}
 use Rattle.stitch.specs.declared.Rule.{Rule}
-use Rattle.stitch.specs.Walk.{edgeAt, Walk}
+use Rattle.walk.specs.Walk.{edgeAt, Walk}
 use Rattle.stitch.specs.Stitch.{signedArea, kindOf, kindBy, kind, isLoop, turned, loops}
-use Rattle.stitch.specs.Claim.{bit, times, timesEdge, All, edgesWalked, Joined, trail, lastOr, steps, sides, sidesOf}
+use Rattle.walk.specs.Walk.{All}
+use Rattle.stitch.specs.Claim.{bit, times, timesEdge, edgesWalked, Joined, trail, lastOr, steps, sides, sidesOf}
 use Rattle.stitch.specs.Code.{edgesIn}
-use Rattle.stitch.proofs.Lists.{all-map, Fair, fair-head, fair-tail, fair-apart}
+use Rattle.walk.proofs.Lists.{all-map}
+use Rattle.stitch.proofs.Lists.{Fair, fair-head, fair-tail, fair-apart}
 use Rattle.stitch.proofs.Joined.{Sound, sound-three}
 
 times-edges : (e : Edge) (l m : List Edge) → timesEdge e (l ++ m) ≡ timesEdge e l + timesEdge e m

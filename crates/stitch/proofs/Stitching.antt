@@ -16,10 +16,11 @@ use Rattle.weld.specs.Code.{edgesOf}
 use Rattle.weld.proofs.Lists.{edges-length}
 use Rattle.stitch.specs.declared.Rule.{Rule}
 use Rattle.stitch.specs.declared.Tally.{Tally}
-use Rattle.stitch.specs.Walk.{noEdge, Walk, walkFrom, walksFrom, walks}
+use Rattle.walk.specs.Walk.{noEdge, Walk, walkFrom, walksFrom, walks}
 use Rattle.stitch.specs.Stitch.{kind, isLoop, turned, loops, inWalks, plusWalk, countsFrom, unwalked, countsOf}
-use Rattle.stitch.specs.Code.{unused, Finished, Marked, Spare, Counting, Turn, Wrote}
-use Rattle.stitch.proofs.Marks.{fresh-unused}
+use Rattle.walk.specs.Code.{unused, Marked}
+use Rattle.stitch.specs.Code.{Finished, Spare, Counting, Turn, Wrote}
+use Rattle.walk.proofs.Marks.{fresh-unused}
 use Rattle.stitch.proofs.Once.{walk-left, walk-length}
 use Rattle.stitch.proofs.Loops.{turned-length, loop-closed}
 use Rattle.stitch.proofs.Counted.{plus-in-walks, plus-in-loops}

@@ -16,10 +16,11 @@ use Rattle.weld.proofs.Welding.{edges-exact, points-counted, edges-counted}
 use Rattle.stitch.specs.declared.Rule.{Rule}
 use Rattle.stitch.specs.declared.Tally.{Tally}
 use Rattle.stitch.specs.declared.Stitched.{Stitched}
-use Rattle.stitch.specs.Walk.{walks}
+use Rattle.walk.specs.Walk.{walks}
 use Rattle.stitch.specs.Stitch.{loops, countsOf, Answer, stitchedWithin}
 use Rattle.stitch.specs.Claim.{Claim}
-use Rattle.stitch.specs.Code.{Marked, Spare, Wrote, Stitchable, Answered, cut, answerIn, Stitches}
+use Rattle.walk.specs.Code.{Marked}
+use Rattle.stitch.specs.Code.{Spare, Wrote, Stitchable, Answered, cut, answerIn, Stitches}
 use Rattle.stitch.proofs.Claim.{claim}
 use Rattle.rows.proofs.Lists.{length-ends}
 

@@ -10,7 +10,7 @@ use lib.ListN.{length, getD}
 use Rattle.vector.specs.Rows.{Seg}
 use Rattle.weld.specs.Weld.{Edge, edge, same, between, listed, becomes, weldedPoints, listedEdges}
 use Rattle.stitch.specs.declared.Rule.{Rule}
-use Rattle.stitch.specs.Walk.{edgeAt, touches, Walk, walks}
+use Rattle.walk.specs.Walk.{All, edgeAt, touches, Walk, walks}
 use Rattle.stitch.specs.Stitch.{loops, inWalks, countsOf, Answer}
 
 -- ---- words of the claim
@@ -29,11 +29,6 @@ times k (j ∷ l) = bit (eqb j k) + times k l
 abbrev pub timesEdge : Edge → List Edge → ℕ
 timesEdge e [] = 0
 timesEdge e (f ∷ l) = bit (same f e) + timesEdge e l
-
--- a property of everything in a list
-abbrev pub All : {A : Type 0} → (A → Type 0) → List A → Type 0
-All P [] = Unit {0}
-All P (x ∷ l) = P x × All P l
 
 -- the two ends of some segment become a and b, in either order
 abbrev pub someBecome : ℕ → ℕ → List Edge → Bool
