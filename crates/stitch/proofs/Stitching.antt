@@ -6,7 +6,7 @@ use Prim.Native.Nat.{ℕ, suc, _+_, _≤_, _<_}
 use native.Mathlib.Numerals.{add-one}
 use native.Mathlib.Omega.{arith}
 use lib.Ieee.{Float}
-use lib.ListN.{length, getD, set, take, drop, replicate, length-append, length-replicate, drop-of-length-le}
+use lib.ListN.{length, getD, set, drop, replicate, length-append, length-replicate, drop-of-length-le}
 use lib.Seq.{drop-cons, set-append-seam, paste}
 use Rattle.rows.proofs.Lists.{ends-snoc, flatten-snoc, length-ends, over-more}
 use Rattle.vector.specs.Vector.{Vector}
