@@ -120,17 +120,19 @@ fn select_next_edge(
         return Next::Edge(first);
     }
     let arrival = arrive(points, n, previous, current);
-    Next::Edge(straightest(
-        points,
-        n,
-        smaller,
-        larger,
-        used,
-        arrival,
-        first,
-        second,
-        end,
-    ))
+    let available = Available {
+        first: first,
+        second: second,
+        end: end,
+    };
+    Next::Edge(straightest(points, n, smaller, larger, used, arrival, available))
+}
+
+// The unused edges at a point: the first two of them, and the number from which on no edge is at that point.
+struct Available {
+    first: usize,
+    second: usize,
+    end: usize,
 }
 
 // The first unused edge at current, from edge k on; the number of edges where there is none. From `end` on no edge
@@ -249,7 +251,7 @@ impl Best {
     }
 }
 
-// Of the unused edges at the arrival's node, from first and then second on, the one with the largest cosine.
+// Of the unused edges at the arrival's node the one with the largest cosine.
 fn straightest(
     points: &[f64],
     n: usize,
@@ -257,27 +259,27 @@ fn straightest(
     larger: &[u32],
     used: &[bool],
     arrival: Arrival,
-    first: usize,
-    second: usize,
-    end: usize,
+    available: Available,
 ) -> usize
-    requires { ⌜ Marked n (now points) (now smaller) (now larger) (now used) × (first < length (now smaller))
-        × (second < length (now smaller)) × (end ≤ length (now smaller))
-        × Past (arrival .node) (edgesOf (now smaller) (now larger)) end ⌝ }
+    requires { ⌜ Marked n (now points) (now smaller) (now larger) (now used) × (available .first < length (now smaller))
+        × (available .second < length (now smaller)) × (available .end ≤ length (now smaller))
+        × Past (arrival .node) (edgesOf (now smaller) (now larger)) (available .end) ⌝ }
     ensures { λ r. ⌜ r ≡ straightest
         (cosineFor arrival (rows 2 n (now (points .entry))) (edgesOf (now (smaller .entry)) (now (larger .entry))))
-        first
-        (cosineFor arrival (rows 2 n (now (points .entry))) (edgesOf (now (smaller .entry)) (now (larger .entry))) first)
-        (ahead (arrival .node) (edgesOf (now (smaller .entry)) (now (larger .entry))) (now (used .entry)) second) ⌝ }
+        (available .first)
+        (cosineFor arrival (rows 2 n (now (points .entry))) (edgesOf (now (smaller .entry)) (now (larger .entry)))
+        (available .first))
+        (ahead (arrival .node) (edgesOf (now (smaller .entry)) (now (larger .entry))) (now (used .entry))
+        (available .second)) ⌝ }
 {
     let mut best = Best {
-        edge: first,
-        cosine: cosine_along(points, n, smaller, larger, arrival, first),
+        edge: available.first,
+        cosine: cosine_along(points, n, smaller, larger, arrival, available.first),
     };
-    let mut k = second;
+    let mut k = available.second;
     while k < smaller.len() {
         best = best.or(k, cosine_along(points, n, smaller, larger, arrival, k));
-        k = first_available(smaller, larger, used, arrival.node, k + 1, end);
+        k = first_available(smaller, larger, used, arrival.node, k + 1, available.end);
     }
     best.edge
 }

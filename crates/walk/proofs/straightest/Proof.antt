@@ -14,15 +14,15 @@ use Rattle.walk.proofs.straightest.Statement.{statement}
 use Rattle.walk.proofs.straightest.Tie as tie
 
 abbrev Inv-loop : tie.InvT-loop
-Inv-loop points n smaller larger used arrival first second end best₀ k₀ best k =
+Inv-loop points n smaller larger used arrival available best₀ k₀ best k =
     let es = edgesOf smaller larger in
     let f = cosineFor arrival (rows 2 n points) es in
     (k ≤ length smaller)
-    × (straightest f first (f first) (ahead (arrival .node) es used second) ≡ straightest f (best .edge) (best .cosine)
+    × (straightest f (available .first) (f (available .first)) (ahead (arrival .node) es used (available .second)) ≡ straightest f (best .edge) (best .cosine)
     (ahead (arrival .node) es used k))
 
 abbrev μ-loop : tie.MeasureT-loop
-μ-loop points n smaller larger used arrival first second end best₀ k₀ best k = length smaller - k
+μ-loop points n smaller larger used arrival available best₀ k₀ best k = length smaller - k
 
 cosine-along-requires : tie.Need-cosine-along-requires Inv-loop μ-loop
 cosine-along-requires c κs = (c .before .before .before .before .pre .0 .ends, c .before .before .before .before .pre .1)
