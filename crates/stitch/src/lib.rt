@@ -68,8 +68,8 @@ pub struct Rule {
 
 // Stitches s plane segments of a single cell into closed loops.
 //
-// Writes the welded points, the nodes of the loops and where each loop ends among them. Loops are
-// oriented counter-clockwise. Most cells give at most 16 segments, whose small tables take less time to clear.
+// Writes the welded points, the nodes of the loops and where each loop ends among them. A loop whose area is negative
+// is reversed. Most cells give at most 16 segments, whose small tables take less time to clear.
 pub fn stitch_segments(
     segments: &[f64],
     s: usize,
@@ -82,9 +82,26 @@ pub fn stitch_segments(
     ensures { λ r. ⌜ Stitches (ruleOf tol) (segs 2 s (now (segments .entry))) r (now (points .entry))
         (now (points .exit)) (now (nodes .entry)) (now (nodes .exit)) (now (ends .entry)) (now (ends .exit)) ⌝ }
 {
+    let rule = Rule { tol2: tol * tol };
     if 16 < s {
-        return stitch_many(segments, s, tol, points, nodes, ends);
+        return stitch_many(segments, s, rule, points, nodes, ends);
     }
+    stitch_few(segments, s, rule, points, nodes, ends)
+}
+
+// Stitches by a rule, with tables for 16 segments.
+fn stitch_few(
+    segments: &[f64],
+    s: usize,
+    rule: Rule,
+    points: &mut [f64],
+    nodes: &mut [u32],
+    ends: &mut [u32],
+) -> Stitched
+    requires { ⌜ Stitchable s (now segments) (now points) (now nodes) (now ends) × (s ≤ 16) ⌝ }
+    ensures { λ r. ⌜ Stitches rule (segs 2 s (now (segments .entry))) r (now (points .entry)) (now (points .exit))
+        (now (nodes .entry)) (now (nodes .exit)) (now (ends .entry)) (now (ends .exit)) ⌝ }
+{
     let mut smaller = [0u32; 16];
     let mut larger = [0u32; 16];
     let mut used = [false; 384];
@@ -93,7 +110,7 @@ pub fn stitch_segments(
     stitch_within(
         segments,
         s,
-        Rule { tol2: tol * tol },
+        rule,
         points,
         nodes,
         ends,
@@ -109,14 +126,14 @@ pub fn stitch_segments(
 fn stitch_many(
     segments: &[f64],
     s: usize,
-    tol: f64,
+    rule: Rule,
     points: &mut [f64],
     nodes: &mut [u32],
     ends: &mut [u32],
 ) -> Stitched
     requires { ⌜ Stitchable s (now segments) (now points) (now nodes) (now ends) ⌝ }
-    ensures { λ r. ⌜ Stitches (ruleOf tol) (segs 2 s (now (segments .entry))) r (now (points .entry))
-        (now (points .exit)) (now (nodes .entry)) (now (nodes .exit)) (now (ends .entry)) (now (ends .exit)) ⌝ }
+    ensures { λ r. ⌜ Stitches rule (segs 2 s (now (segments .entry))) r (now (points .entry)) (now (points .exit))
+        (now (nodes .entry)) (now (nodes .exit)) (now (ends .entry)) (now (ends .exit)) ⌝ }
 {
     let mut smaller = [0u32; 384];
     let mut larger = [0u32; 384];
@@ -126,7 +143,7 @@ fn stitch_many(
     stitch_within(
         segments,
         s,
-        Rule { tol2: tol * tol },
+        rule,
         points,
         nodes,
         ends,
@@ -138,7 +155,7 @@ fn stitch_many(
     )
 }
 
-// Stitches by a rule: the edges, their marks and the nodes of a walk are in lent slices.
+// The same: the edges, their marks and the nodes of a walk are in lent slices.
 fn stitch_within(
     segments: &[f64],
     s: usize,
