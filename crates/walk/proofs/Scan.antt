@@ -81,6 +81,14 @@ module _ (c : ℕ) (xs ys : List ℕ) (us : List Bool) (k j : ℕ) (same : lengt
       }
 
 -- ---- the straightest
+
+-- a later edge takes over if its cosine is greater, and else the best stays
+pub better-later : (b : Best) (k : ℕ) (v : Float) → lt (b .cosine) v ≡ true → record { edge = k; cosine = v } ≡ better b k v
+better-later b k v e = rw e
+
+pub better-same : (b : Best) (k : ℕ) (v : Float) → lt (b .cosine) v ≡ false → b ≡ better b k v
+better-same b k v e = rw e
+
 pub straightest-step : (f : ℕ → Float) (b : Best) (k : ℕ) (v : Float) (l : List ℕ) → v ≡ f k
     → straightest f (b .edge) (b .cosine) (k ∷ l) ≡ straightest f (better b k v .edge) (better b k v .cosine) l
 unfolding straightest

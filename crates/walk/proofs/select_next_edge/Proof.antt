@@ -24,7 +24,7 @@ returns c =
     let g = c .before .before .before .before .before .before .args in
     next-none (rows 2 (g .n) (g .points .now)) (edgesOf (g .smaller .now) (g .larger .now)) (g .used .now) (g .previous) (g .current)
     (c .before .first-available .result) (c .before .first-available .ensures)
-    (c .if1 .taken ∙ sym (count (c .before .before .before .before .before .before)))
+    (omega (arith, c .if1 .taken, count (c .before .before .before .before .before .before)))
 
 add-first-available : tie.Need-add-first-available
 add-first-available c =
@@ -55,7 +55,7 @@ returns-2 c =
       c .before .before .if1 .left,
     )) (c .before .first-available2
     .ensures)
-    (c .if2 .taken ∙ sym (count (c .before .before .before .before .before .before .before .before)))
+    (omega (arith, c .if2 .taken, count (c .before .before .before .before .before .before .before .before)))
 
 arrive-requires : tie.Need-arrive-requires
 arrive-requires c κs = search needs
