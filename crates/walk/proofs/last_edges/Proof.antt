@@ -72,10 +72,10 @@ cast-last-2 : tie.Need-cast-last-2 Inv-loop μ-loop
 cast-last-2 c = omega arith
 
 mul-last-2 : tie.Need-mul-last-2 Inv-loop μ-loop
-mul-last-2 c = omega (arith, second-in c)
+mul-last-2 c = omega (arith, first-in c, second-in c)
 
 slice-write-last-2 : tie.Need-slice-write-last-2 Inv-loop μ-loop
-slice-write-last-2 c = simp length-set (omega (arith, second-in c))
+slice-write-last-2 c = simp length-set (omega (arith, first-in c, second-in c))
 
 add-k : tie.Need-add-k Inv-loop μ-loop
 add-k c = omega arith
