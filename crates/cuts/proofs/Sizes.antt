@@ -27,7 +27,7 @@ use Rattle.cell.proofs.Bounds.{phed-few, space-bounds, space-number}
 use Rattle.cell.specs.declared.types.Nodes.{Nodes}
 use Rattle.clip.specs.Cell.{atMost, corners, facesFrom, facesOf}
 use Rattle.clip.specs.Code.{Fit}
-use Rattle.stitch.specs.Claim.{All}
+use Rattle.walk.specs.Walk.{All}
 use Rattle.cuts.specs.Code.{EachAtMost, Within, CellWithin}
 
 -- ---- a property of everything in a list

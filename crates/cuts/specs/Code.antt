@@ -7,7 +7,7 @@ use Rattle.rows.specs.Outcome.{Outcome, refused, found}
 use Rattle.vector.specs.View.{frameOf}
 use Rattle.vector.specs.Vector.{Frame}
 use Rattle.cell.specs.Read.{Polygon, Cell, spaceCell, polygonsOf, cornersOf, Accepted}
-use Rattle.stitch.specs.Claim.{All}
+use Rattle.walk.specs.Walk.{All}
 use Rattle.stitch.specs.Code.{Answered}
 use Rattle.stitch.specs.Entry.{Buffers}
 use Rattle.stitch.specs.declared.alone.Sectioned.{Sectioned}

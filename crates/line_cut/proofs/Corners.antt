@@ -11,7 +11,7 @@ use Rattle.vector.specs.Vector.{Vector}
 use Rattle.vector.specs.Rows.{put}
 use Rattle.vector.proofs.Rows.{drop-later, rest-put, rows-put}
 use Rattle.clip.specs.Code.{Points}
-use Rattle.stitch.specs.Walk.{pointAt}
+use Rattle.walk.specs.Walk.{pointAt}
 
 -- the points of the first i nodes stand in zs, which was xs
 pub record Listing (ps : List Vector) (nodes : List ℕ) (xs : List Float) (i : ℕ) (zs : List Float) : Type 0 where

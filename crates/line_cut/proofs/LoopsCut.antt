@@ -14,7 +14,7 @@ use Rattle.clip.specs.Cell.{atMost}
 use Rattle.clip.specs.Clip.{Cut, planeSectionSegments}
 use Rattle.clip.specs.Code.{Points, Segments}
 use Rattle.clip.proofs.Bound.{section-bound}
-use Rattle.stitch.specs.Walk.{pointAt}
+use Rattle.walk.specs.Walk.{pointAt}
 use Rattle.stitch.specs.Code.{cut}
 use Rattle.line_cut.specs.LineCut.{axis, loopSegments, loopsSegments, segmentOnLine}
 use Rattle.line_cut.specs.Code.{Loop, Loops, Rising, onLineOf}

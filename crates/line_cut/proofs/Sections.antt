@@ -1,14 +1,11 @@
 -- The section of a cell is ready to be cut by y = 0: its nodes are points of it, its loops end at running totals, and the slices that
 -- were lent for the section hold what comes of them. Assumes nothing.
-use mathlib.Core.Path.{_≡_, refl, sym, ap, _∙_, subst}
+use mathlib.Core.Path.{_≡_, sym, ap, _∙_, subst}
 use mathlib.Core.List.{List, [], _∷_, _++_, append-nil, flatten, map}
-use mathlib.Core.Bool.{Bool, true, false}
-use Prim.Native.Nat.{ℕ, zero, suc, _+_, _*_, _≤_, _<_, min, max}
+use Prim.Native.Nat.{ℕ, zero, suc, _+_, _*_, _≤_, _<_}
 use native.Mathlib.Omega.{arith}
 use native.Mathlib.Nat.{zero-add}
-use borrow.Author.Tests.{ltb-false, ltb-true}
-use lib.Dec.{ltb}
-use lib.Ieee.{Float, binary64, mul}
+use lib.Ieee.{Float}
 use lib.ListN.{length, take, drop, length-append, length-map}
 use lib.Seq.{take-at}
 use Rattle.vector.specs.Vector.{Vector, Frame}
@@ -19,10 +16,9 @@ use Rattle.rows.proofs.Lists.{length-ends}
 use Rattle.clip.specs.Cell.{atMost, cellSegments, corners, cutBy}
 use Rattle.clip.proofs.Bound.{cell-bound}
 use Rattle.clip.specs.Code.{Segments}
-use Rattle.weld.specs.Weld.{Edge, Within, between, listed, listedEdges, weldedPoints}
-use Rattle.weld.proofs.Edges.{listed-within, newer-unlisted}
-use Rattle.stitch.specs.Claim.{All, lastOr, sides, steps}
-use Rattle.stitch.specs.Code.{Answered, Below, cut}
+use Rattle.walk.specs.Walk.{All}
+use Rattle.walk.specs.Code.{Below}
+use Rattle.stitch.specs.Code.{Answered, cut}
 use Rattle.stitch.specs.Stitch.{Answer, ruleOf, stitched}
 use Rattle.stitch.specs.declared.Stitched.{Stitched}
 use Rattle.stitch.proofs.Claim.{claim}
@@ -48,30 +44,6 @@ rising-ends ls = subst (Rising 0 (endsFrom 0 ls)) (zero-add (length (flatten ls)
 
 -- ---- the nodes of loops are welded points
 
--- both ends of a listed edge are among the points
-module _ (es : List Edge) (n : ℕ) (w : Within es n) where
-  ends-in : (a b : ℕ) → listed (between a b) es ≡ true → max a b < n
-  ends-in a b h = by-test (ltb (max a b) n) refl
-    where
-      by-test : (t : Bool) → ltb (max a b) n ≡ t → max a b < n
-      by-test true e = ltb-true (max a b) n e
-      by-test false e =
-          let no : true ≡ false = sym h ∙ newer-unlisted (min a b) (max a b) es n w (ltb-false (max a b) n e) in
-          let z : _≡_ {A = ℕ} 0 1 = cc in
-          absurd (omega arith)
-
-  steps-in : (a : ℕ) (l : List ℕ) → All (λ e. listed e es ≡ true) (steps (a ∷ l)) → All (λ k. k < n) l
-  steps-in a [] h = tt
-  steps-in a (b ∷ l) h = (omega (arith, ends-in a b (h .0)), steps-in b l (h .1))
-
-  loop-in : (l : List ℕ) → All (λ e. listed e es ≡ true) (sides l) → All (λ k. k < n) l
-  loop-in [] h = tt
-  loop-in (a ∷ l) h = (omega (arith, ends-in (lastOr a l) a (h .0)), steps-in a l (h .1))
-
-  loops-in : (ls : List (List ℕ)) → All (λ l. All (λ e. listed e es ≡ true) (sides l)) ls → All (λ l. All (λ k. k < n) l) ls
-  loops-in [] h = tt
-  loops-in (l ∷ ls) h = (loop-in l (h .0), loops-in ls (h .1))
-
 all-join : (n : ℕ) (l m : List ℕ) → All (λ k. k < n) l → All (λ k. k < n) m → All (λ k. k < n) (l ++ m)
 all-join n [] m h g = g
 all-join n (a ∷ l) m h g = (h .0, all-join n l m (h .1) g)
@@ -88,13 +60,9 @@ all-at n (a ∷ l) h (suc k) j = all-at n l (h .1) k (omega arith)
 
 pub nodes-below : (tol : Float) (ss : List Seg) → Below (length (stitched tol ss .points)) (flatten (stitched tol ss .loops))
 nodes-below tol ss =
-    let t = mul binary64 tol tol in
-    let c = claim (ruleOf tol) ss in
-    let p : length (weldedPoints t ss) ≡ length (stitched tol ss .points) = ap length (sym (c .points-are)) in
-    subst (λ n. Below n (flatten (stitched tol ss .loops))) p
-    (all-at (length (weldedPoints t ss)) (flatten (stitched tol ss .loops))
-    (all-in-row (length (weldedPoints t ss)) (stitched tol ss .loops)
-    (loops-in (listedEdges t ss) (length (weldedPoints t ss)) (listed-within t ss) (stitched tol ss .loops) (c .neighbours))))
+    let a = stitched tol ss in
+    all-at (length (a .points)) (flatten (a .loops))
+    (all-in-row (length (a .points)) (a .loops) (claim (ruleOf tol) ss .nodes-are-points))
 
 -- ---- what was written, as its reader takes it
 

@@ -10,7 +10,8 @@ use Rattle.clip.specs.Cell.{atMost}
 use Rattle.clip.specs.Code.{Segments}
 use Rattle.clip.specs.declared.Found.{Found}
 use Rattle.cuts.specs.Cuts.{sectionOf}
-use Rattle.stitch.specs.Code.{Below, cut}
+use Rattle.walk.specs.Code.{Below}
+use Rattle.stitch.specs.Code.{cut}
 use Rattle.line_cut.specs.LineCut.{lineOfSection, loopsSegments, segmentOnLine}
 
 -- what the work on an accepted cell needs: room for its segments

@@ -14,7 +14,7 @@ use Rattle.cell.specs.Read.{Polygon, Cell, spaceCell}
 use Rattle.cell.specs.Claims.{SameInSpace}
 use Rattle.clip.specs.Clip.{Cut, planeSectionSegments}
 use Rattle.clip.specs.Cell.{corners}
-use Rattle.stitch.specs.Walk.{pointAt}
+use Rattle.walk.specs.Walk.{pointAt}
 use Rattle.stitch.specs.Stitch.{Answer}
 use Rattle.cuts.specs.Cuts.{Through, cutCell, placeIn, sectionOf}
 use Rattle.cuts.specs.declared.Way.the-variants.{Direction}

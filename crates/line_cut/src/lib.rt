@@ -9,8 +9,8 @@ ghost use Rattle.cell.specs.Read.{cell, polygonsOf, spaceCell};
 ghost use Rattle.clip.specs.Cell.{atMost};
 ghost use Rattle.clip.specs.Code.{Points, Segments};
 ghost use Rattle.clip_plane.specs.View.{cut2};
-ghost use Rattle.stitch.specs.Code.{Below};
-ghost use Rattle.stitch.specs.Walk.{pointAt};
+ghost use Rattle.walk.specs.Code.{Below};
+ghost use Rattle.walk.specs.Walk.{pointAt};
 ghost use Rattle.cuts.specs.Cuts.{through};
 ghost use Rattle.cuts.specs.Lines.{GaveLine, lineTold};
 ghost use Rattle.cuts.specs.Code.{CellWithin};
@@ -23,10 +23,10 @@ use clip_plane::polygon::Cut;
 use cuts::Line;
 use cuts::Placing;
 use cuts::Way;
-use stitch::wide;
 use vector::Plane;
 use vector::Vec2;
 use vector::Vec3;
+use walk::wide;
 
 // Cuts a single cell in space with the line through origin that has this direction: the segments, six numbers each.
 //

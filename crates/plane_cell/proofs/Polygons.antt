@@ -16,7 +16,7 @@ use Rattle.cell.proofs.Bounds.{plane-bounded}
 use Rattle.clip.specs.Clip.{Cut, planeSectionSegments}
 use Rattle.clip.specs.Code.{Segments}
 use Rattle.clip.proofs.Bound.{section-bound}
-use Rattle.stitch.specs.Claim.{All}
+use Rattle.walk.specs.Walk.{All}
 use Rattle.cuts.proofs.Sizes.{Wide, passed-wide, rows-back}
 use Rattle.plane_cell.specs.PlaneCell.{polygonSegments}
 

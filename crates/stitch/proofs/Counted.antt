@@ -10,7 +10,7 @@ use Rattle.stitch.specs.declared.Counts.{Counts}
 use Rattle.stitch.specs.declared.Kind.{Kind}
 use Rattle.stitch.specs.declared.Kind.the-variants.{Loop, Flat, Open}
 use Rattle.stitch.specs.declared.Rule.{Rule}
-use Rattle.stitch.specs.Walk.{Walk}
+use Rattle.walk.specs.Walk.{Walk}
 use Rattle.stitch.specs.Stitch.{kind, isLoop, inWalks, plusWalk, countsFrom, unwalked, countsOf}
 use Rattle.stitch.specs.Claim.{edgesWalked}
 

@@ -12,13 +12,14 @@ use lib.ListN.{length, getD, set, replicate, length-set, length-replicate}
 use borrow.Author.Tests.{eq-eqb, ne-eqb, eqb-true, eqb-false}
 use Rattle.vector.specs.Vector.{Vector}
 use Rattle.weld.specs.Weld.{Edge, edge, lo, hi, Simple, Within}
-use Rattle.stitch.specs.declared.Next.{Next}
-use Rattle.stitch.specs.declared.Next.the-variants as next
-use Rattle.stitch.specs.Walk.{edgeAt, touches, other, available, nextEdge, Walk, rest, walkFrom, walksFrom, walks}
-use Rattle.stitch.specs.Claim.{bit, All, degree}
-use Rattle.stitch.specs.Code.{unused}
-use Rattle.stitch.proofs.Marks.{unused-set, unused-le}
-use Rattle.stitch.proofs.Junction.{next-free, next-stuck}
+use Rattle.walk.specs.declared.Next.{Next}
+use Rattle.walk.specs.declared.Next.the-variants as next
+use Rattle.walk.specs.Walk.{edgeAt, touches, other, available, nextEdge, Walk, rest, walkFrom, walksFrom, walks}
+use Rattle.walk.specs.Walk.{All}
+use Rattle.stitch.specs.Claim.{bit, degree}
+use Rattle.walk.specs.Code.{unused}
+use Rattle.walk.proofs.Marks.{unused-set, unused-le}
+use Rattle.walk.proofs.Junction.{next-free, next-stuck}
 use Rattle.stitch.proofs.Once.{Done, done-more, done-walk, walk-length, bit-true}
 
 -- how many edges that end at v are marked

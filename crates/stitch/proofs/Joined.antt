@@ -11,14 +11,15 @@ use borrow.Author.Tests.{eq-eqb, eqb-true}
 use Rattle.vector.specs.Vector.{Vector}
 use Rattle.weld.specs.Weld.{Edge, edge, lo, hi, between, Simple, Distinct}
 use Rattle.weld.proofs.Edges.{between-sym}
-use Rattle.stitch.specs.declared.Next.{Next}
-use Rattle.stitch.specs.declared.Next.the-variants as next
-use Rattle.stitch.specs.Walk.{edgeAt, touches, other, nextEdge, Walk, onward, rest, walkFrom, walksFrom, walks}
-use Rattle.stitch.specs.Claim.{bit, All, edgesWalked, Joined, trail}
+use Rattle.walk.specs.declared.Next.{Next}
+use Rattle.walk.specs.declared.Next.the-variants as next
+use Rattle.walk.specs.Walk.{edgeAt, touches, other, nextEdge, Walk, onward, rest, walkFrom, walksFrom, walks}
+use Rattle.walk.specs.Walk.{All}
+use Rattle.stitch.specs.Claim.{bit, edgesWalked, Joined, trail}
 use Rattle.stitch.proofs.Lists.{Fair, fair-head, fair-tail, fair-apart, fair-left, fair-right}
-use Rattle.stitch.specs.Code.{unused}
-use Rattle.stitch.proofs.Marks.{unused-set, unused-le}
-use Rattle.stitch.proofs.Junction.{next-free}
+use Rattle.walk.specs.Code.{unused}
+use Rattle.walk.proofs.Marks.{unused-set, unused-le}
+use Rattle.walk.proofs.Junction.{next-free}
 use Rattle.stitch.proofs.Once.{walk-length, walk-fair, walked-fair}
 
 -- an edge at c is the one between c and its other end

@@ -1,6 +1,4 @@
 pub mod Lists
-pub mod Marks
-pub mod Junction
 pub mod Once
 pub mod Even
 pub mod Joined
@@ -8,10 +6,6 @@ pub mod Loops
 pub mod Counted
 pub mod Listed
 pub mod Claim
-pub mod Buffers
-pub mod Lasts
-pub mod Scan
-pub mod Walking
 pub mod Output
 pub mod Ending
 pub mod Turns

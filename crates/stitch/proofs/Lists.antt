@@ -1,4 +1,4 @@
--- Properties of everything in a list, and numbers of listed edges. Assumes nothing.
+-- Numbers of listed edges: how often one stands in a list. Assumes nothing.
 use mathlib.Core.Path.{_≡_, refl}
 use mathlib.Core.List.{List, [], _∷_, _++_}
 use Prim.Native.Nat.{ℕ, _+_, _≤_, _<_}
@@ -6,11 +6,7 @@ use native.Mathlib.Decide.{decLt}
 use native.Mathlib.Omega.{arith}
 use lib.Dec.{eqb}
 use borrow.Author.Tests.{eq-eqb}
-use Rattle.stitch.specs.Claim.{bit, times, All}
-
-pub all-map : {A : Type 0} (P Q : A → Type 0) → ((x : A) → P x → Q x) → (l : List A) → All P l → All Q l
-all-map P Q f [] h = tt
-all-map P Q f (x ∷ l) h = (f x (h .0), all-map P Q f l (h .1))
+use Rattle.stitch.specs.Claim.{bit, times}
 
 pub times-append : (j : ℕ) (l m : List ℕ) → times j (l ++ m) ≡ times j l + times j m
 times-append j [] m = omega arith

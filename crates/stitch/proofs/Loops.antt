@@ -2,23 +2,25 @@
 use mathlib.Core.Path.{_≡_, refl, ap, sym, _∙_, subst}
 use mathlib.Core.List.{List, [], _∷_, _++_, map, map-append, reverse, reverseAux, flatten}
 use mathlib.Core.Bool.{Bool, true, false, false≢true, cond}
-use Prim.Native.Nat.{ℕ, suc, _+_, _*_, _≤_, _<_}
+use Prim.Native.Nat.{ℕ, suc, _+_, _*_, _≤_, _<_, min, max}
 use native.Mathlib.Nat.{not-suc-le-zero}
 use native.Mathlib.Omega.{arith}
-use lib.Dec.{eqb}
+use lib.Dec.{eqb, ltb}
 use lib.Ieee.{lt}
 use lib.ListN.{length, getD, length-append, length-reverseAux}
-use borrow.Author.Tests.{eq-eqb}
+use borrow.Author.Tests.{eq-eqb, ltb-false, ltb-true}
 use Rattle.vector.specs.Number.{f0}
 use Rattle.vector.specs.Vector.{Vector}
-use Rattle.weld.specs.Weld.{Edge, same, between, listed, Simple, Distinct}
-use Rattle.weld.proofs.Edges.{between-sym, same-eq, same-self, listed-at}
+use Rattle.weld.specs.Weld.{Edge, same, between, listed, Simple, Within, Distinct}
+use Rattle.weld.proofs.Edges.{between-sym, same-eq, same-self, listed-at, newer-unlisted}
 use Rattle.stitch.specs.declared.Rule.{Rule}
-use Rattle.stitch.specs.Walk.{edgeAt, Walk}
+use Rattle.walk.specs.Walk.{edgeAt, Walk}
 use Rattle.stitch.specs.Stitch.{signedArea, kindOf, kindBy, kind, isLoop, turned, loops}
-use Rattle.stitch.specs.Claim.{bit, times, timesEdge, All, edgesWalked, Joined, trail, lastOr, steps, sides, sidesOf}
+use Rattle.walk.specs.Walk.{All}
+use Rattle.stitch.specs.Claim.{bit, times, timesEdge, edgesWalked, Joined, trail, lastOr, steps, sides, sidesOf}
 use Rattle.stitch.specs.Code.{edgesIn}
-use Rattle.stitch.proofs.Lists.{all-map, Fair, fair-head, fair-tail, fair-apart}
+use Rattle.walk.proofs.Lists.{all-map}
+use Rattle.stitch.proofs.Lists.{Fair, fair-head, fair-tail, fair-apart}
 use Rattle.stitch.proofs.Joined.{Sound, sound-three}
 
 times-edges : (e : Edge) (l m : List Edge) → timesEdge e (l ++ m) ≡ timesEdge e l + timesEdge e m
@@ -265,3 +267,27 @@ pub three-each : (ls : List (List ℕ)) → All (λ l. 3 ≤ length l) ls → 3 
 unfolding flatten
 three-each [] a = omega arith
 three-each (l ∷ ls) a = let i = three-each ls (a .1) in let b = length-append l (flatten ls) in let c = a .0 in omega arith
+
+-- ---- the nodes of loops are points: both ends of a listed edge are
+module _ (es : List Edge) (n : ℕ) (w : Within es n) where
+  ends-in : (a b : ℕ) → listed (between a b) es ≡ true → max a b < n
+  ends-in a b h = by-test (ltb (max a b) n) refl
+    where
+      by-test : (t : Bool) → ltb (max a b) n ≡ t → max a b < n
+      by-test true e = ltb-true (max a b) n e
+      by-test false e =
+          let no : true ≡ false = sym h ∙ newer-unlisted (min a b) (max a b) es n w (ltb-false (max a b) n e) in
+          let z : _≡_ {A = ℕ} 0 1 = cc in
+          absurd (omega arith)
+
+  steps-in : (a : ℕ) (l : List ℕ) → All (λ e. listed e es ≡ true) (steps (a ∷ l)) → All (λ k. k < n) l
+  steps-in a [] h = tt
+  steps-in a (b ∷ l) h = (omega (arith, ends-in a b (h .0)), steps-in b l (h .1))
+
+  loop-in : (l : List ℕ) → All (λ e. listed e es ≡ true) (sides l) → All (λ k. k < n) l
+  loop-in [] h = tt
+  loop-in (a ∷ l) h = (omega (arith, ends-in (lastOr a l) a (h .0)), steps-in a l (h .1))
+
+  pub loops-in : (ls : List (List ℕ)) → All (λ l. All (λ e. listed e es ≡ true) (sides l)) ls → All (λ l. All (λ k. k < n) l) ls
+  loops-in [] h = tt
+  loops-in (l ∷ ls) h = (loop-in l (h .0), loops-in ls (h .1))

@@ -7,19 +7,40 @@ use native.Mathlib.Nat.{not-suc-le-zero}
 use native.Mathlib.Numerals.{add-one}
 use native.Mathlib.Decide.{decLt}
 use native.Mathlib.Omega.{arith}
-use lib.Dec.{eqb}
+use lib.Dec.{eqb, eqb·zero-suc, eqb·suc-zero, eqb·suc-suc}
 use lib.ListN.{length, getD, set, replicate, length-set, length-append, length-replicate, List·getD-eq-default}
 use borrow.Author.Count.{below-more}
 use Rattle.vector.specs.Vector.{Vector}
 use Rattle.weld.specs.Weld.{Edge, lo, hi}
-use Rattle.stitch.specs.declared.Next.{Next}
-use Rattle.stitch.specs.declared.Next.the-variants as next
-use Rattle.stitch.specs.Walk.{edgeAt, other, nextEdge, rest, walkFrom, walksFrom, walks}
+use Rattle.walk.specs.declared.Next.{Next}
+use Rattle.walk.specs.declared.Next.the-variants as next
+use Rattle.walk.specs.Walk.{edgeAt, other, nextEdge, rest, walkFrom, walksFrom, walks}
 use Rattle.stitch.specs.Claim.{bit, times, edgesWalked}
 use Rattle.stitch.proofs.Lists.{times-append, times-self, Fair}
-use Rattle.stitch.specs.Code.{unused}
-use Rattle.stitch.proofs.Marks.{unused-set, set-bit, bit-le, fresh-unused, fresh-bit}
-use Rattle.stitch.proofs.Junction.{next-free}
+use Rattle.walk.specs.Code.{unused}
+use Rattle.walk.proofs.Marks.{unused-set, fresh-unused}
+use Rattle.walk.proofs.Junction.{next-free}
+
+-- ---- marks as numbers
+
+-- setting the mark k changes it alone
+set-bit : (us : List Bool) (k j : ℕ) → getD us k true ≡ false
+    → bit (getD (set us k true) j false) ≡ bit (eqb k j) + bit (getD us j false)
+set-bit [] k j h = let z : _≡_ {A = ℕ} 0 1 = cc in absurd (omega arith)
+set-bit (u ∷ us) zero zero h = rw h
+set-bit (u ∷ us) zero (suc j) h = rw (eqb·zero-suc j) (omega arith)
+set-bit (u ∷ us) (suc k) zero h = rw (eqb·suc-zero k) (omega arith)
+set-bit (u ∷ us) (suc k) (suc j) h = rw (eqb·suc-suc k j) (set-bit us k j h)
+
+bit-le : (b : Bool) → bit b ≤ 1
+bit-le true = omega arith
+bit-le false = omega arith
+
+-- no mark of a fresh list is set
+fresh-bit : (n j : ℕ) → bit (getD (replicate n false) j false) ≡ 0
+fresh-bit zero j = refl
+fresh-bit (suc n) zero = refl
+fresh-bit (suc n) (suc j) = fresh-bit n j
 
 -- a choice is an unused edge
 abbrev pub Chosen : Next → List Bool → Type 0

@@ -10,7 +10,7 @@ use lib.Ieee.{Float, add, binary64}
 use lib.ListN.{length, getD, set, drop}
 use lib.Seq.{paste, paste-zero, paste-suc, length-paste, drop-cons, drop-length}
 use Rattle.vector.specs.Vector.{Vector}
-use Rattle.stitch.specs.Walk.{pointAt}
+use Rattle.walk.specs.Walk.{pointAt}
 use Rattle.stitch.specs.Stitch.{cross2, area2From}
 
 -- ---- j of the numbers of l have been written from `at` on

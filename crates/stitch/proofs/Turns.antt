@@ -13,18 +13,19 @@ use Rattle.vector.specs.Rows.{rows}
 use Rattle.weld.specs.Weld.{Edge, edge, lo, hi, Within}
 use Rattle.weld.specs.Code.{edgesOf}
 use Rattle.weld.proofs.Lists.{edges-length, edges-getD}
-use Rattle.stitch.specs.declared.Next.{Next}
-use Rattle.stitch.specs.declared.Next.the-variants as next
+use Rattle.walk.specs.declared.Next.{Next}
+use Rattle.walk.specs.declared.Next.the-variants as next
 use Rattle.stitch.specs.declared.Rule.{Rule}
 use Rattle.stitch.specs.declared.Tally.{Tally}
-use Rattle.stitch.specs.Walk.{edgeAt, other, nextEdge, Walk, rest, walkFrom}
+use Rattle.walk.specs.Walk.{edgeAt, other, nextEdge, Walk, rest, walkFrom}
 use Rattle.stitch.specs.Stitch.{inWalks, kindBy, turned}
-use Rattle.stitch.specs.Code.{Ends, Marked, Went, Below, edgesIn, Finished, Finishing, Spare, Counting, Turn}
-use Rattle.stitch.proofs.Junction.{next-free}
+use Rattle.walk.specs.Code.{Ends, Marked, Went, Below}
+use Rattle.stitch.specs.Code.{edgesIn, Finished, Finishing, Spare, Counting, Turn}
+use Rattle.walk.proofs.Junction.{next-free}
 use Rattle.stitch.proofs.Once.{walk-left}
 use Rattle.stitch.proofs.Joined.{Sound, walk-sound, sound-three}
 use Rattle.stitch.proofs.Loops.{closed-length, walk-edges}
-use Rattle.stitch.proofs.Buffers.{end-below}
+use Rattle.walk.proofs.Buffers.{end-below}
 
 -- ---- a walk's nodes are points
 below-cons : (a : ℕ) (l : List ℕ) (n : ℕ) → a < n → Below n l → Below n (a ∷ l)
@@ -121,8 +122,8 @@ module _ {n : ℕ} {zs : List Float} {xs ys : List ℕ} {us : List Bool} {tally 
         three = omega (arith, sound-three (edgesOf xs ys) (spare .simple) (spare .distinct) w sound c);
       }
 
-  module _ {nodes-walked edges-walked : ℕ} {closed : Bool} {us′ : List Bool} {buffer : List ℕ}
-      (went : Went w nodes-walked edges-walked closed us′ buffer) where
+  module _ {nodes-walked : ℕ} {closed : Bool} {us′ : List Bool} {buffer : List ℕ}
+      (went : Went w nodes-walked closed us′ buffer) where
     pub walked-fits : nodes-walked ≤ length buffer
     walked-fits = let a = ap length (went .nodes-are) in let b = length-take nodes-walked buffer in let c = went .node-count in omega arith
 

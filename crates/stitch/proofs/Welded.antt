@@ -16,10 +16,11 @@ use Rattle.weld.proofs.Welding.{edges-exact, points-counted, edges-counted}
 use Rattle.stitch.specs.declared.Rule.{Rule}
 use Rattle.stitch.specs.declared.Tally.{Tally}
 use Rattle.stitch.specs.declared.Stitched.{Stitched}
-use Rattle.stitch.specs.Walk.{walks}
+use Rattle.walk.specs.Walk.{walks}
 use Rattle.stitch.specs.Stitch.{loops, countsOf, Answer, stitchedWithin}
 use Rattle.stitch.specs.Claim.{Claim}
-use Rattle.stitch.specs.Code.{Marked, Spare, Wrote, Stitchable, Answered, cut, answerIn, Stitches}
+use Rattle.walk.specs.Code.{Marked}
+use Rattle.stitch.specs.Code.{Spare, Wrote, Stitchable, Tables, Answered, cut, answerIn, Stitches}
 use Rattle.stitch.proofs.Claim.{claim}
 use Rattle.rows.proofs.Lists.{length-ends}
 
@@ -179,3 +180,19 @@ module _ (rule : Rule) {ss : List Float} {s : ℕ} {zs₀ : List Float} {n m : �
   stitches tally nodes′ ends′ o =
       let g = answered tally nodes′ ends′ o in
       record { gave = g; claim = claimed rule (segs 2 s ss) _ zs₀ zs nodes nodes′ ends ends′ g }
+
+-- ---- the tables of a tier, for n segments
+pub tables-for : (n s : ℕ) → s ≤ n
+    → Tables s (replicate n 0) (replicate n 0) (replicate 384 false) (replicate (n + 1) 0) (replicate (2 * n) 0)
+tables-for n s h =
+    let a = length-replicate n zero in
+    let b = length-replicate (n + 1) zero in
+    let c = length-replicate (2 * n) zero in
+    record {
+      same = refl;
+      for-edges = omega arith;
+      unmarked = refl;
+      for-walk = omega arith;
+      for-lasts = omega arith;
+      zeros = rw c;
+    }

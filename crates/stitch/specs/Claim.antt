@@ -8,9 +8,9 @@ use Prim.Native.Nat.{ℕ, _+_, _*_, _%_, _≤_, _<_}
 use lib.Dec.{eqb}
 use lib.ListN.{length, getD}
 use Rattle.vector.specs.Rows.{Seg}
-use Rattle.weld.specs.Weld.{Edge, edge, same, between, listed, becomes, weldedPoints, listedEdges}
+use Rattle.weld.specs.Weld.{Edge, edge, same, between, listed, becomes, weldedPoints, listedEdges, Simple, Within, Distinct}
 use Rattle.stitch.specs.declared.Rule.{Rule}
-use Rattle.stitch.specs.Walk.{edgeAt, touches, Walk, walks}
+use Rattle.walk.specs.Walk.{All, edgeAt, touches, Walk, walks}
 use Rattle.stitch.specs.Stitch.{loops, inWalks, countsOf, Answer}
 
 -- ---- words of the claim
@@ -29,11 +29,6 @@ times k (j ∷ l) = bit (eqb j k) + times k l
 abbrev pub timesEdge : Edge → List Edge → ℕ
 timesEdge e [] = 0
 timesEdge e (f ∷ l) = bit (same f e) + timesEdge e l
-
--- a property of everything in a list
-abbrev pub All : {A : Type 0} → (A → Type 0) → List A → Type 0
-All P [] = Unit {0}
-All P (x ∷ l) = P x × All P l
 
 -- the two ends of some segment become a and b, in either order
 abbrev pub someBecome : ℕ → ℕ → List Edge → Bool
@@ -92,6 +87,11 @@ pub record ClaimOf (rule : Rule) (ss : List Seg) (es : List Edge) (ws : List Wal
   pub points-are : a .points ≡ weldedPoints (rule .tol2) ss
   -- two different points form a listed edge exactly when the two ends of some segment become them
   pub listed-when : (p q : ℕ) → (p ≡ q → ⊥) → listed (between p q) es ≡ someBecome p q (becomes (rule .tol2) ss [])
+  -- each listed edge joins two of the points, the smaller first
+  pub smaller-first : Simple es
+  pub joins-points : Within es (length (a .points))
+  -- no edge is listed twice
+  pub listed-once : Distinct es
   -- each listed edge is in exactly one walk, and there once
   pub once : (k : ℕ) → k < length es → times k (edgesWalked ws) ≡ 1
   -- no walk has another edge
@@ -104,6 +104,8 @@ pub record ClaimOf (rule : Rule) (ss : List Seg) (es : List Edge) (ws : List Wal
   pub exactly : a .loops ≡ loops (a .points) rule ws
   -- each has at least three nodes
   pub loops-three : All (λ l. 3 ≤ length l) (a .loops)
+  -- every node of it is the number of a point
+  pub nodes-are-points : All (λ l. All (λ v. v < length (a .points)) l) (a .loops)
   -- a listed edge joins any two cyclic neighbours in it
   pub neighbours : All (λ l. All (λ e. listed e es ≡ true) (sides l)) (a .loops)
   -- no listed edge is used a second time in any loop returned, counted over all loops together

@@ -1,4 +1,3 @@
-pub mod Walk
 pub mod Stitch
 pub mod Claim
 pub mod Code

@@ -13,7 +13,7 @@ use Rattle.stitch.specs.declared.Counts.{Counts}
 use Rattle.stitch.specs.declared.Kind.{Kind}
 use Rattle.stitch.specs.declared.Kind.the-variants.{Loop, Flat, Open}
 use Rattle.stitch.specs.declared.Rule.{Rule}
-use Rattle.stitch.specs.Walk.{pointAt, Walk, walks, walksFrom}
+use Rattle.walk.specs.Walk.{pointAt, Walk, walks, walksFrom}
 
 -- ---- the area of a closed walk
 

@@ -19,7 +19,7 @@ use Rattle.cell.specs.Read.{areRows, cell, readAs}
 use Rattle.cell.specs.declared.types.Shape.the-variants.{Phed}
 use Rattle.clip.specs.Clip.{planeSectionSegments}
 use Rattle.weld.specs.Weld.{becomes, edgesFrom, listedEdges, pointsFrom, weldedPoints}
-use Rattle.stitch.specs.Walk.{walks, walksFrom}
+use Rattle.walk.specs.Walk.{walks, walksFrom}
 use Rattle.stitch.specs.Stitch.{Answer, f2, signedArea, stitchedWithin}
 use Rattle.stitch.specs.Entry.{stitchAlone}
 use Rattle.cuts.specs.Cuts.{through}

@@ -5,7 +5,7 @@ use Prim.Native.Nat.{_-_}
 use native.Mathlib.Omega.{arith}
 use lib.ListN.{length}
 use Rattle.vector.specs.Rows.{rows}
-use Rattle.stitch.proofs.Buffers.{point-is}
+use Rattle.walk.proofs.Buffers.{point-is}
 use Rattle.line_cut.proofs.Corners.{Listing, listing-end, listing-start, listing-step}
 use Rattle.line_cut.proofs.loop_points.Statement.{statement}
 use Rattle.line_cut.proofs.loop_points.Tie as tie

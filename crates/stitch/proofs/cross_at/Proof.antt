@@ -3,9 +3,9 @@ use mathlib.Core.Path.{ap, _∙_}
 use Rattle.vector.specs.Rows.{rows}
 use Rattle.vector.specs.Vector.{Vector}
 use Rattle.vector.specs.View.{vec2}
-use Rattle.stitch.specs.Walk.{pointAt}
+use Rattle.walk.specs.Walk.{pointAt}
 use Rattle.stitch.specs.Stitch.{cross2}
-use Rattle.stitch.proofs.Buffers.{point-is}
+use Rattle.walk.proofs.Buffers.{point-is}
 use borrow.Author.Needs.{needs}
 use Rattle.stitch.proofs.cross_at.Statement.{statement}
 use Rattle.stitch.proofs.cross_at.Tie as tie

@@ -42,7 +42,7 @@ loop-less c = omega arith
 loop-again : tie.Need-loop-again Inv-loop μ-loop
 loop-again c =
     let l = c .before .before .loop in
-    copy-step (l .inv) (c .before .loop-test .taken) refl
+    copy-step (l .inv) (omega (arith, c .before .loop-test .taken)) refl
 
 same-length : tie.Need-same-length Inv-loop μ-loop
 same-length c =
@@ -52,7 +52,7 @@ same-length c =
 returns : tie.Need-returns Inv-loop μ-loop
 returns c =
     let l = c .before .loop in
-    copy-end (l .inv) (c .loop-test .left)
+    copy-end (l .inv) (omega (arith, c .loop-test .left))
 
 pub put-nodes-spec : {M : Type 1} → statement M
 put-nodes-spec =

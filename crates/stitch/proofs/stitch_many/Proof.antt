@@ -1,6 +1,6 @@
 -- `stitch::stitch_many` meets its contract. Assumes nothing.
 use mathlib.Core.Path.{refl}
-use native.Mathlib.Omega.{arith}
+use Rattle.stitch.proofs.Welded.{tables-for}
 use Rattle.stitch.proofs.stitch_many.Statement.{statement}
 use Rattle.stitch.proofs.stitch_many.Tie as tie
 
@@ -22,14 +22,7 @@ slice-aggregate-stitch-within-5 c = refl
 stitch-within-requires : tie.Need-stitch-within-requires
 stitch-within-requires c κs = (
   c .before .before .before .before .before .before .before .before .before .before .before .before .pre,
-  record {
-    same = refl;
-    for-edges = omega (arith, c .before .before .before .before .before .before .before .before .before .before .before .before .pre .few);
-    unmarked = refl;
-    for-walk = omega (arith, c .before .before .before .before .before .before .before .before .before .before .before .before .pre .few);
-    for-lasts = omega (arith, c .before .before .before .before .before .before .before .before .before .before .before .before .pre .few);
-    zeros = refl;
-  },
+  tables-for 384 (c .before .before .before .before .before .before .before .before .before .before .before .before .args .s) (c .before .before .before .before .before .before .before .before .before .before .before .before .pre .few),
 )
 
 same-length : tie.Need-same-length

@@ -1,5 +1,6 @@
 -- `weld::push_coord` meets its contract. Assumes nothing.
 use mathlib.Core.Path.{refl}
+use native.Mathlib.Omega.{arith}
 use Rattle.weld.proofs.Points.{became-new, became-old}
 use borrow.Author.Needs.{needs}
 use Rattle.weld.proofs.push_coord.Statement.{statement}
@@ -15,7 +16,7 @@ same-length : tie.Need-same-length
 same-length c = search needs
 
 returns : tie.Need-returns
-returns c = became-old (c .before .find .ensures) (c .if1 .taken)
+returns c = became-old (c .before .find .ensures) (omega (arith, c .if1 .taken))
 
 put2-requires : tie.Need-put2-requires
 put2-requires c κs = search needs
@@ -33,7 +34,7 @@ returns-2 : tie.Need-returns-2
 returns-2 c =
     let f = c .before .before .before .before .before in
     rw (c .before .before .put2 .ensures)
-    (became-new (f .find .ensures) (c .before .before .before .before .if1 .left) refl (f .before .before .before .pre .0))
+    (became-new (f .find .ensures) (omega (arith, c .before .before .before .before .if1 .left)) refl (f .before .before .before .pre .0))
 
 pub push-coord-spec : {M : Type 1} → statement M
 push-coord-spec =

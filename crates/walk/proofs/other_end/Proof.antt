@@ -1,0 +1,13 @@
+-- `walk::other_end` meets its contract. Assumes nothing.
+use borrow.Author.Tests.{eq-eqb, ne-eqb}
+use Rattle.walk.proofs.other_end.Statement.{statement}
+use Rattle.walk.proofs.other_end.Tie as tie
+
+returns : tie.Need-returns
+returns c = simp (eq-eqb _ _ (c .if1 .taken))
+
+returns-2 : tie.Need-returns-2
+returns-2 c = simp (ne-eqb _ _ (c .if1 .left))
+
+pub other-end-spec : {M : Type 1} → statement M
+other-end-spec = tie.close (tie.spec returns returns-2)
