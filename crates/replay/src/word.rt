@@ -52,8 +52,8 @@ pub fn pattern(x: f64) -> u64 {
     f64::to_bits(x)
 }
 
-// Reads a list of words to the start of out, and gives its length.
-pub fn list(out: &mut [u64]) -> usize
+// Reads the next list, of words, to the start of out, and gives its length.
+pub fn next_words(out: &mut [u64]) -> usize
     ensures { λ r. ⌜ Counts r (now (out .exit)) ⌝ }
 {
     let n = next_length(out.len());
@@ -65,8 +65,8 @@ pub fn list(out: &mut [u64]) -> usize
     n
 }
 
-// Reads a list of numbers to the start of out, and gives its length.
-pub fn numbers(out: &mut [f64]) -> usize
+// Reads the next list, of numbers, to the start of out, and gives its length.
+pub fn next_numbers(out: &mut [f64]) -> usize
     ensures { λ r. ⌜ Counts r (now (out .exit)) ⌝ }
 {
     let n = next_length(out.len());
