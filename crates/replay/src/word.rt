@@ -1,7 +1,9 @@
 // Words of 64 bits, as they are read, and as numbers.
+ghost use mathlib.Core.Path.{_≡_};
 ghost use Prim.Native.Nat.{_^_, _≤_, _<_};
 ghost use lib.ListN.{length};
 ghost use Rattle.replay.specs.Code.{Counts};
+ghost use Rattle.replay.specs.Same.{patternOf};
 use libc::STDIN_FILENO;
 
 // The next word of the input, or 0 where it has ended.
@@ -45,7 +47,9 @@ pub fn number(b: u64) -> f64 {
 }
 
 // The pattern of a number; every NaN has 7ff8000000000000.
-pub fn pattern(x: f64) -> u64 {
+pub fn pattern(x: f64) -> u64
+    ensures { λ r. ⌜ r ≡ patternOf x ⌝ }
+{
     if x != x {
         return 0x7ff8_0000_0000_0000;
     }
