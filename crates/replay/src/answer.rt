@@ -13,7 +13,7 @@ pub struct Answered {
 // taken for the tolerance.
 pub fn enter(
     entry: u64,
-    kind: u8,
+    cell_type: u8,
     tol: f64,
     conn: &[u64],
     coords: &[f64],
@@ -25,7 +25,7 @@ pub fn enter(
 ) -> Answered {
     match entry {
         1 => section(cicelybeam::cicelybeam_plane(
-            kind,
+            cell_type,
             conn,
             coords,
             origin,
@@ -39,13 +39,13 @@ pub fn enter(
         6 => tolerance(cicelybeam::cicelybeam_tolerance_in_space(coords)),
         7 => tolerance(cicelybeam::cicelybeam_tolerance_in_plane(coords)),
         8 => told(0, 0, cicelybeam::cicelybeam_sqrt(tol)),
-        _ => line(cut_by_line(entry, kind, tol, conn, coords, origin, vector, numbers)),
+        _ => line(cut_by_line(entry, cell_type, tol, conn, coords, origin, vector, numbers)),
     }
 }
 
 fn cut_by_line(
     entry: u64,
-    kind: u8,
+    cell_type: u8,
     tol: f64,
     conn: &[u64],
     coords: &[f64],
@@ -54,9 +54,17 @@ fn cut_by_line(
     numbers: &mut [f64],
 ) -> Line {
     match entry {
-        2 => cicelybeam::cicelybeam_line_in_space(kind, conn, coords, origin, vector, tol, numbers),
+        2 => cicelybeam::cicelybeam_line_in_space(
+            cell_type,
+            conn,
+            coords,
+            origin,
+            vector,
+            tol,
+            numbers,
+        ),
         3 => cicelybeam::cicelybeam_plane_cell_by_normal(
-            kind,
+            cell_type,
             conn,
             coords,
             origin,
@@ -65,7 +73,7 @@ fn cut_by_line(
             numbers,
         ),
         _ => cicelybeam::cicelybeam_plane_cell_by_direction(
-            kind,
+            cell_type,
             conn,
             coords,
             origin,

@@ -3,7 +3,10 @@
 // with one thing wrong, which have to differ. For each group its name is printed, how many records it has, and how many
 // of them the entry answers otherwise.
 //
-// The input is made by compare's program `record`, and its format stands in compare/src/recorded.rs.
+// The input is made by
+//     MEFIKIT_SRC=FOLDER cargo run --manifest-path compare/Cargo.toml --config compare/.cargo/config.toml \
+//         --offline --release --features mefikit --bin record -- crates/replay/stdin
+// and its format stands in compare/src/recorded.rs.
 mod answer;
 mod same;
 mod word;
@@ -44,19 +47,19 @@ fn differing(n: u64) -> u64 {
 // 1 where the next record is answered otherwise, else 0.
 fn differs() -> u64 {
     let entry = word::next();
-    let kind = (word::next() % 256) as u8;
+    let cell_type = (word::next() % 256) as u8;
     let tol = word::number(word::next());
     let mut conn = [0u64; 320];
     let mut coords = [0.0f64; 1600];
     let mut origin = [0.0f64; 8];
     let mut vector = [0.0f64; 8];
-    let a = word::list(&mut conn);
-    let b = word::numbers(&mut coords);
-    let c = word::numbers(&mut origin);
-    let d = word::numbers(&mut vector);
-    if lent(
+    let a = word::next_words(&mut conn);
+    let b = word::next_numbers(&mut coords);
+    let c = word::next_numbers(&mut origin);
+    let d = word::next_numbers(&mut vector);
+    if answers(
         entry,
-        kind,
+        cell_type,
         tol,
         &conn[..a],
         &coords[..b],
@@ -69,10 +72,10 @@ fn differs() -> u64 {
     }
 }
 
-// Whether an entry answers as recorded in buffers of the recorded lengths.
-fn lent(
+// Whether the entry answers as recorded, in buffers of the recorded lengths.
+fn answers(
     entry: u64,
-    kind: u8,
+    cell_type: u8,
     tol: f64,
     conn: &[u64],
     coords: &[f64],
@@ -85,9 +88,9 @@ fn lent(
     let a = word::next_length(3600);
     let b = word::next_length(400);
     let c = word::next_length(200);
-    answers(
+    answers_in(
         entry,
-        kind,
+        cell_type,
         tol,
         conn,
         coords,
@@ -100,9 +103,9 @@ fn lent(
 }
 
 // The same in buffers that are lent as they are.
-fn answers(
+fn answers_in(
     entry: u64,
-    kind: u8,
+    cell_type: u8,
     tol: f64,
     conn: &[u64],
     coords: &[f64],
@@ -114,7 +117,7 @@ fn answers(
 ) -> bool {
     let told = answer::enter(
         entry,
-        kind,
+        cell_type,
         tol,
         conn,
         coords,
@@ -141,13 +144,13 @@ fn recorded_value(x: f64) -> bool {
 // Whether the next list is what was written to a buffer of numbers.
 fn recorded_numbers(out: &[f64]) -> bool {
     let mut recorded = [0u64; 3600];
-    let n = word::list(&mut recorded);
+    let n = word::next_words(&mut recorded);
     same::same_numbers(&recorded[..n], out)
 }
 
 // Whether the next list is what was told, or written to a buffer of indices.
 fn recorded_indices(out: &[u32]) -> bool {
     let mut recorded = [0u64; 400];
-    let n = word::list(&mut recorded);
+    let n = word::next_words(&mut recorded);
     same::same_indices(&recorded[..n], out)
 }

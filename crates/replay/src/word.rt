@@ -1,7 +1,9 @@
 // Words of 64 bits, as they are read, and as numbers.
+ghost use mathlib.Core.Path.{_≡_};
 ghost use Prim.Native.Nat.{_^_, _≤_, _<_};
 ghost use lib.ListN.{length};
 ghost use Rattle.replay.specs.Code.{Counts};
+ghost use Rattle.replay.specs.Same.{patternOf};
 use libc::STDIN_FILENO;
 
 // The next word of the input, or 0 where it has ended.
@@ -45,15 +47,17 @@ pub fn number(b: u64) -> f64 {
 }
 
 // The pattern of a number; every NaN has 7ff8000000000000.
-pub fn pattern(x: f64) -> u64 {
+pub fn pattern(x: f64) -> u64
+    ensures { λ r. ⌜ r ≡ patternOf x ⌝ }
+{
     if x != x {
         return 0x7ff8_0000_0000_0000;
     }
     f64::to_bits(x)
 }
 
-// Reads a list of words to the start of out, and gives its length.
-pub fn list(out: &mut [u64]) -> usize
+// Reads the next list, of words, to the start of out, and gives its length.
+pub fn next_words(out: &mut [u64]) -> usize
     ensures { λ r. ⌜ Counts r (now (out .exit)) ⌝ }
 {
     let n = next_length(out.len());
@@ -65,8 +69,8 @@ pub fn list(out: &mut [u64]) -> usize
     n
 }
 
-// Reads a list of numbers to the start of out, and gives its length.
-pub fn numbers(out: &mut [f64]) -> usize
+// Reads the next list, of numbers, to the start of out, and gives its length.
+pub fn next_numbers(out: &mut [f64]) -> usize
     ensures { λ r. ⌜ Counts r (now (out .exit)) ⌝ }
 {
     let n = next_length(out.len());

@@ -1,9 +1,9 @@
--- `replay::lent` is safe. Assumes nothing.
+-- `replay::answers` is safe. Assumes nothing.
 use native.Mathlib.Omega.{arith}
 use lib.ListN.{length-take}
 use borrow.Author.Needs.{needs}
-use Rattle.replay.proofs.lent.Statement.{statement}
-use Rattle.replay.proofs.lent.Tie as tie
+use Rattle.replay.proofs.answers.Statement.{statement}
+use Rattle.replay.proofs.answers.Tie as tie
 
 next-length-requires : tie.Need-next-length-requires
 next-length-requires c κs = search needs
@@ -17,39 +17,39 @@ next-length-requires-3 c κs = search needs
 array-borrow-prefix-numbers : tie.Need-array-borrow-prefix-numbers
 array-borrow-prefix-numbers c = search needs
 
-slice-aggregate-answers : tie.Need-slice-aggregate-answers
-slice-aggregate-answers c = simp length-take (omega arith)
+slice-aggregate-answers-in : tie.Need-slice-aggregate-answers-in
+slice-aggregate-answers-in c = simp length-take (omega arith)
 
 array-borrow-prefix-nodes : tie.Need-array-borrow-prefix-nodes
 array-borrow-prefix-nodes c = search needs
 
-slice-aggregate-answers-2 : tie.Need-slice-aggregate-answers-2
-slice-aggregate-answers-2 c = simp length-take (omega arith)
+slice-aggregate-answers-in-2 : tie.Need-slice-aggregate-answers-in-2
+slice-aggregate-answers-in-2 c = simp length-take (omega arith)
 
 array-borrow-prefix-ends : tie.Need-array-borrow-prefix-ends
 array-borrow-prefix-ends c = search needs
 
-slice-aggregate-answers-3 : tie.Need-slice-aggregate-answers-3
-slice-aggregate-answers-3 c = simp length-take (omega arith)
+slice-aggregate-answers-in-3 : tie.Need-slice-aggregate-answers-in-3
+slice-aggregate-answers-in-3 c = simp length-take (omega arith)
 
-answers-requires : tie.Need-answers-requires
-answers-requires c κs = search needs
+answers-in-requires : tie.Need-answers-in-requires
+answers-in-requires c κs = search needs
 
 returns : tie.Need-returns
 returns c = search needs
 
-pub lent-spec : {M : Type 1} → statement M
-lent-spec =
+pub answers-spec : {M : Type 1} → statement M
+answers-spec =
     tie.close
     (tie.spec
     next-length-requires
     next-length-requires-2
     next-length-requires-3
     array-borrow-prefix-numbers
-    slice-aggregate-answers
+    slice-aggregate-answers-in
     array-borrow-prefix-nodes
-    slice-aggregate-answers-2
+    slice-aggregate-answers-in-2
     array-borrow-prefix-ends
-    slice-aggregate-answers-3
-    answers-requires
+    slice-aggregate-answers-in-3
+    answers-in-requires
     returns)

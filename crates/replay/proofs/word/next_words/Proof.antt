@@ -1,11 +1,11 @@
--- `replay::word::list` is safe: a store keeps the length. Assumes nothing.
+-- `replay::word::next_words` is safe: a store keeps the length. Assumes nothing.
 use mathlib.Core.Path.{_≡_}
 use Prim.Native.Nat.{_-_, _≤_}
 use native.Mathlib.Omega.{arith}
 use lib.ListN.{length, length-set, length-take}
 use borrow.Author.Needs.{needs}
-use Rattle.replay.proofs.word.list.Statement.{statement}
-use Rattle.replay.proofs.word.list.Tie as tie
+use Rattle.replay.proofs.word.next_words.Statement.{statement}
+use Rattle.replay.proofs.word.next_words.Tie as tie
 
 abbrev Inv-loop : tie.InvT-loop
 Inv-loop out₀ n i₀ out i = (i ≤ n) × (n ≤ length out) × (length out ≡ length out₀)
@@ -43,8 +43,8 @@ same-length c = search needs
 returns : tie.Need-returns Inv-loop μ-loop
 returns c = simp length-take (omega arith)
 
-pub list-spec : {M : Type 1} → statement M
-list-spec =
+pub next-words-spec : {M : Type 1} → statement M
+next-words-spec =
     tie.close
     (tie.spec
     Inv-loop

@@ -1,11 +1,11 @@
--- `replay::word::numbers` is safe: a store keeps the length. Assumes nothing.
+-- `replay::word::next_numbers` is safe: a store keeps the length. Assumes nothing.
 use mathlib.Core.Path.{_≡_}
 use Prim.Native.Nat.{_-_, _≤_}
 use native.Mathlib.Omega.{arith}
 use lib.ListN.{length, length-set, length-take}
 use borrow.Author.Needs.{needs}
-use Rattle.replay.proofs.word.numbers.Statement.{statement}
-use Rattle.replay.proofs.word.numbers.Tie as tie
+use Rattle.replay.proofs.word.next_numbers.Statement.{statement}
+use Rattle.replay.proofs.word.next_numbers.Tie as tie
 
 abbrev Inv-loop : tie.InvT-loop
 Inv-loop out₀ n i₀ out i = (i ≤ n) × (n ≤ length out) × (length out ≡ length out₀)
@@ -46,8 +46,8 @@ same-length c = search needs
 returns : tie.Need-returns Inv-loop μ-loop
 returns c = simp length-take (omega arith)
 
-pub numbers-spec : {M : Type 1} → statement M
-numbers-spec =
+pub next-numbers-spec : {M : Type 1} → statement M
+next-numbers-spec =
     tie.close
     (tie.spec
     Inv-loop
