@@ -58,6 +58,14 @@ mod linked {
             out: *mut f64,
             out_len: usize,
         ) -> usize;
+        pub fn trial_deproject(
+            rows: *const f64,
+            rows_len: usize,
+            x: f64,
+            y: f64,
+            out: *mut f64,
+            out_len: usize,
+        ) -> usize;
         pub fn trial_line_normal(x: f64, y: f64, out: *mut f64, out_len: usize) -> usize;
         pub fn trial_line_normal_along(x: f64, y: f64, out: *mut f64, out_len: usize) -> usize;
     }
@@ -176,6 +184,17 @@ pub fn project(p: &[f64; 3], origin: &[f64; 3], u: &[f64; 3], v: &[f64; 3]) -> [
     let rows = rows.as_flattened();
     let mut out = [0.0; 2];
     let told = unsafe { linked::trial_project(rows.as_ptr(), rows.len(), out.as_mut_ptr(), 2) };
+    assert!(found(told));
+    out
+}
+
+/// The point of space with the coordinates `p` in the plane through `origin` with the in-plane vectors `u` and `v`.
+pub fn deproject(p: &[f64; 2], origin: &[f64; 3], u: &[f64; 3], v: &[f64; 3]) -> [f64; 3] {
+    let rows = [*origin, *u, *v];
+    let rows = rows.as_flattened();
+    let mut out = [0.0; 3];
+    let told =
+        unsafe { linked::trial_deproject(rows.as_ptr(), 9, p[0], p[1], out.as_mut_ptr(), 3) };
     assert!(found(told));
     out
 }

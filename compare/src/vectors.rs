@@ -10,7 +10,7 @@ use std::panic::{catch_unwind, UnwindSafe};
 pub type Judge = fn(&mut Random) -> Result<bool, String>;
 
 /// What is compared: its name, and one case of it.
-pub const KINDS: [(&str, Judge); 7] = [
+pub const KINDS: [(&str, Judge); 8] = [
     ("the tolerance in space", |random| tolerance(random, 3)),
     ("the tolerance in the plane", |random| tolerance(random, 2)),
     ("a plane's frame by its normal", plane_frame),
@@ -18,6 +18,7 @@ pub const KINDS: [(&str, Judge); 7] = [
     ("a plane line's normal by its normal", line_normal),
     ("a plane line's normal by its direction", line_normal_along),
     ("projection", project),
+    ("the way back from a plane", deproject),
 ];
 
 /// Holds one kind against mefikit's. Where mefikit panics there must be no answer; the panics are quiet.
@@ -159,6 +160,17 @@ fn project(random: &mut Random) -> Result<bool, String> {
     let rust = oracle::rust::reach::project(&p, &origin, &u, &v);
     hold(Some(&ours), Some(&rules), Some(&rust), || {
         told("the projection", &p) + &told(" from", &origin) + &told(" to", &u) + &told(" and", &v)
+    })
+}
+
+fn deproject(random: &mut Random) -> Result<bool, String> {
+    let (p, origin) = (numbers(random), numbers(random));
+    let (u, v) = (numbers(random), numbers(random));
+    let ours = proved::deproject(&p, &origin, &u, &v);
+    let rules = oracle::by_rules::reach::deproject(&p, &origin, &u, &v);
+    let rust = oracle::rust::reach::deproject(&p, &origin, &u, &v);
+    hold(Some(&ours), Some(&rules), Some(&rust), || {
+        told("the point", &p) + &told(" from", &origin) + &told(" along", &u) + &told(" and", &v)
     })
 }
 

@@ -13,7 +13,7 @@ use clip::Found;
 use polygon::Cut;
 use polygon::plane_section_segments;
 use vector::Plane;
-use vector::point3;
+use vector::coord3;
 use vector::put2;
 
 // A cell of m corners in all, which stand in coords face by face; ends are running totals. Its segments, in the
@@ -65,8 +65,8 @@ fn project_segments(space: &[f64], k: usize, plane: Plane, out: &mut [f64], from
     let mut i = 0;
     while i < k {
         let j = 2 * (from + i);
-        put2(out, j, plane.project(point3(space, 2 * i)));
-        put2(out, j + 1, plane.project(point3(space, 2 * i + 1)));
+        put2(out, j, plane.project(coord3(space, 2 * i)));
+        put2(out, j + 1, plane.project(coord3(space, 2 * i + 1)));
         i += 1;
     }
     from + k

@@ -42,7 +42,7 @@ pub fn place(way: Way, origin: &[f64], vector: &[f64]) -> Placing
     if vector.len() != 3 {
         return Placing::Refused(5);
     }
-    match plane_by(way, vector::point3(origin, 0), vector::point3(vector, 0)) {
+    match plane_by(way, vector::coord3(origin, 0), vector::coord3(vector, 0)) {
         Placed::On(p) => Placing::On(p),
         Placed::Nowhere => Placing::Refused(6),
     }

@@ -271,7 +271,7 @@ fn loop_points(points: &[f64], p: usize, nodes: &[u32], out: &mut [f64])
     let mut i = 0;
     while i < nodes.len() {
         let k = wide(nodes[i]);
-        vector::put2(out, i, vector::point2(points, k));
+        vector::put2(out, i, vector::coord2(points, k));
         i += 1;
     }
 }
@@ -286,8 +286,8 @@ fn put_on_line(flat: &[f64], k: usize, plane: Plane, out: &mut [f64], from: usiz
     let mut i = 0;
     while i < k {
         let j = 2 * (from + i);
-        vector::put3(out, j, on_line(plane, vector::point2(flat, 2 * i)));
-        vector::put3(out, j + 1, on_line(plane, vector::point2(flat, 2 * i + 1)));
+        vector::put3(out, j, on_line(plane, vector::coord2(flat, 2 * i)));
+        vector::put3(out, j + 1, on_line(plane, vector::coord2(flat, 2 * i + 1)));
         i += 1;
     }
     from + k

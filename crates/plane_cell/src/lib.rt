@@ -119,9 +119,9 @@ fn place(way: Way, origin: &[f64], vector: &[f64], tol: f64) -> Cutting
     if vector.len() != 2 {
         return Cutting::Refused(5);
     }
-    match normal_by(way, vector::point2(vector, 0)) {
+    match normal_by(way, vector::coord2(vector, 0)) {
         Unit2::Along(n) => Cutting::By(Cut {
-            origin: vector::point2(origin, 0),
+            origin: vector::coord2(origin, 0),
             normal: n,
             tol: tol,
         }),

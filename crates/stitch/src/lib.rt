@@ -356,8 +356,8 @@ fn cross_at(points: &[f64], n: usize, a: u32, b: u32) -> f64
     ensures { λ r. ⌜ r ≡ cross2 (pointAt (rows 2 n (now (points .entry))) a)
         (pointAt (rows 2 n (now (points .entry))) b) ⌝ }
 {
-    let p = vector::point2(points, wide(a));
-    let q = vector::point2(points, wide(b));
+    let p = vector::coord2(points, wide(a));
+    let q = vector::coord2(points, wide(b));
     p.x * q.y - q.x * p.y
 }
 

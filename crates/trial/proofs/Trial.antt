@@ -3,11 +3,11 @@ use mathlib.Core.Path.{_≡_, refl, _∙_, ap}
 use mathlib.Core.List.{List}
 use Prim.Native.Nat.{ℕ}
 use lib.Ieee.{Float}
-use Rattle.vector.specs.Vector.{Vector, Direction, along, Frame, Framed, framed, project}
+use Rattle.vector.specs.Vector.{Vector, Direction, along, Frame, Framed, framed, deproject, project}
 use Rattle.vector.specs.Rows.{put, row, rows}
 use Rattle.clip.specs.Clip.{planeSectionSegments}
 use Rattle.clip.specs.Code.{Segments}
-use Rattle.trial.specs.Trial.{Clips, FrameGiven, Total, UnitGiven, projected}
+use Rattle.trial.specs.Trial.{Clips, FrameGiven, Total, UnitGiven, deprojected, projected}
 
 -- the lengths fit: what is given holds
 pub it-fits : {fit given else : Type 0} → fit → given → Total fit given else
@@ -50,3 +50,11 @@ pub projected-by-rows : (xs out : List Float) {out′ : List Float} {q : Vector}
 projected-by-rows xs out {q = q} o u v p eo eu ev ep e w =
     let f : q ≡ projected xs = rw (← eo, ← eu, ← ev, ← ep) e in
     w ∙ ap (put 2 out 0) f
+
+-- a point with coordinates in a plane of rows that were read, written as a row
+pub deprojected-by-rows : (xs out : List Float) {out′ : List Float} {q : Vector} (o u v p : Vector)
+    → o ≡ row 3 xs 0 → u ≡ row 3 xs 1 → v ≡ row 3 xs 2
+    → q ≡ deproject (record { origin = o; normal = o; u = u; v = v }) p → out′ ≡ put 3 out 0 q → out′ ≡ put 3 out 0 (deprojected xs p)
+deprojected-by-rows xs out {q = q} o u v p eo eu ev e w =
+    let f : q ≡ deprojected xs p = rw (← eo, ← eu, ← ev) e in
+    w ∙ ap (put 3 out 0) f

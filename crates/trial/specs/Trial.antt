@@ -5,7 +5,7 @@ use mathlib.Core.List.{List}
 use Prim.Native.Nat.{ℕ, _/_, _*_, _≤_}
 use lib.ListN.{length}
 use lib.Ieee.{Float}
-use Rattle.vector.specs.Vector.{Vector, Direction, along, nowhere, Framed, framed, unframed, project}
+use Rattle.vector.specs.Vector.{Vector, Direction, along, nowhere, Framed, framed, unframed, deproject, project}
 use Rattle.vector.specs.Rows.{put, row, rows, segs}
 use Rattle.clip.specs.Clip.{Cut, planeSectionSegments}
 use Rattle.clip.specs.Cell.{atMost}
@@ -99,3 +99,7 @@ pub record UnitGiven (a : Direction) (r : ℕ) (out out′ : List Float) : Type 
 -- the fourth row in the plane whose origin, u and v are the first three; its normal is not read
 abbrev pub projected : List Float → Vector
 projected xs = project (record { origin = row 3 xs 0; normal = row 3 xs 0; u = row 3 xs 1; v = row 3 xs 2 }) (row 3 xs 3)
+
+-- the point with the coordinates p in that plane
+abbrev pub deprojected : List Float → Vector → Vector
+deprojected xs p = deproject (record { origin = row 3 xs 0; normal = row 3 xs 0; u = row 3 xs 1; v = row 3 xs 2 }) p

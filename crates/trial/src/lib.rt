@@ -10,13 +10,13 @@ ghost use Rattle.vector.specs.View.{placed, unit2};
 ghost use Rattle.vector.specs.Tolerance.{tolerance};
 ghost use Rattle.clip.specs.Cell.{atMost};
 ghost use Rattle.stitch.specs.Code.{Stitchable};
-ghost use Rattle.trial.specs.Trial.{ClipFits, Clips, FrameGiven, Refused, Stitching, Total, UnitGiven, Unstitched, projected};
+ghost use Rattle.trial.specs.Trial.{ClipFits, Clips, FrameGiven, Refused, Stitching, Total, UnitGiven, Unstitched, deprojected, projected};
 use vector::Placed;
 use vector::Plane;
 use vector::Unit2;
 use vector::Vec2;
-use vector::point2;
-use vector::point3;
+use vector::coord2;
+use vector::coord3;
 use vector::put2;
 use vector::put3;
 
@@ -67,8 +67,8 @@ fn space_segments(
     ensures { λ r. ⌜ Clips 3 n (now (poly .entry)) (now (placed .entry)) tol (now (out .entry)) r (now (out .exit)) ⌝ }
 {
     let cut = clip_space::polygon::Cut {
-        origin: point3(placed, 0),
-        normal: point3(placed, 1),
+        origin: coord3(placed, 0),
+        normal: coord3(placed, 1),
         tol: tol,
     };
     let found = clip_space::polygon::plane_section_segments(poly, n, cut, points, out);
@@ -119,8 +119,8 @@ fn plane_segments(
     ensures { λ r. ⌜ Clips 2 n (now (poly .entry)) (now (placed .entry)) tol (now (out .entry)) r (now (out .exit)) ⌝ }
 {
     let cut = clip_plane::polygon::Cut {
-        origin: point2(placed, 0),
-        normal: point2(placed, 1),
+        origin: coord2(placed, 0),
+        normal: coord2(placed, 1),
         tol: tol,
     };
     let found = clip_plane::polygon::plane_section_segments(poly, n, cut, points, out);
@@ -228,7 +228,7 @@ pub extern "C" fn trial_plane_frame(placed: &[f64], out: &mut [f64]) -> usize
     if out.len() < 9 {
         return REFUSED;
     }
-    put_frame(Plane::new(point3(placed, 0), point3(placed, 1)), out)
+    put_frame(Plane::new(coord3(placed, 0), coord3(placed, 1)), out)
 }
 
 // The same for a line in space, the second row being its direction.
@@ -244,7 +244,7 @@ pub extern "C" fn trial_line_frame(placed: &[f64], out: &mut [f64]) -> usize
     if out.len() < 9 {
         return REFUSED;
     }
-    put_frame(Plane::of_line(point3(placed, 0), point3(placed, 1)), out)
+    put_frame(Plane::of_line(coord3(placed, 0), coord3(placed, 1)), out)
 }
 
 // Writes the three vectors of a plane. Gives 1, or 0 if there is no plane.
@@ -277,14 +277,38 @@ pub extern "C" fn trial_project(rows: &[f64], out: &mut [f64]) -> usize
     if out.len() < 2 {
         return REFUSED;
     }
-    let origin = point3(rows, 0);
+    let origin = coord3(rows, 0);
     let plane = Plane {
         origin: origin,
         normal: origin,
-        u: point3(rows, 1),
-        v: point3(rows, 2),
+        u: coord3(rows, 1),
+        v: coord3(rows, 2),
     };
-    put2(out, 0, plane.project(point3(rows, 3)));
+    put2(out, 0, plane.project(coord3(rows, 3)));
+    1
+}
+
+// The point of space, written to out, with the coordinates x and y in a plane that its origin, u and v give in three rows.
+#[no_mangle]
+pub extern "C" fn trial_deproject(rows: &[f64], x: f64, y: f64, out: &mut [f64]) -> usize
+    ensures { λ r. ⌜ Total ((9 ≤ length (now (rows .entry))) × (3 ≤ length (now (out .entry))))
+        ((r ≡ 1) × (now (out .exit) ≡ put 3 (now (out .entry)) 0 (deprojected (now (rows .entry)) (x ∷ y ∷ []))))
+        (Refused r (now (out .entry)) (now (out .exit))) ⌝ }
+{
+    if rows.len() < 9 {
+        return REFUSED;
+    }
+    if out.len() < 3 {
+        return REFUSED;
+    }
+    let origin = coord3(rows, 0);
+    let plane = Plane {
+        origin: origin,
+        normal: origin,
+        u: coord3(rows, 1),
+        v: coord3(rows, 2),
+    };
+    put3(out, 0, plane.deproject(Vec2 { x: x, y: y }));
     1
 }
 

@@ -334,7 +334,7 @@ impl Vec2 {
 }
 
 // Row i of points in space.
-pub fn point3(xs: &[f64], i: usize) -> Vec3
+pub fn coord3(xs: &[f64], i: usize) -> Vec3
     requires { ⌜ 3 * i + 2 < length (now xs) ⌝ }
     ensures { λ r. ⌜ vec3 r ≡ row 3 (now (xs .entry)) i ⌝ }
 {
@@ -346,7 +346,7 @@ pub fn point3(xs: &[f64], i: usize) -> Vec3
 }
 
 // Row i of points in the plane.
-pub fn point2(xs: &[f64], i: usize) -> Vec2
+pub fn coord2(xs: &[f64], i: usize) -> Vec2
     requires { ⌜ 2 * i + 1 < length (now xs) ⌝ }
     ensures { λ r. ⌜ vec2 r ≡ row 2 (now (xs .entry)) i ⌝ }
 {

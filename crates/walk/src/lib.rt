@@ -194,8 +194,8 @@ fn arrive(points: &[f64], n: usize, previous: u32, current: u32) -> Arrival
     requires { ⌜ (2 * n ≤ length (now points)) × (previous < n) × (current < n) ⌝ }
     ensures { λ r. ⌜ Arrived (rows 2 n (now (points .entry))) previous current r ⌝ }
 {
-    let at = vector::point2(points, wide(current));
-    let incoming = at.minus(vector::point2(points, wide(previous)));
+    let at = vector::coord2(points, wide(current));
+    let incoming = at.minus(vector::coord2(points, wide(previous)));
     let norm = root::sqrt(incoming.dot(incoming));
     Arrival {
         node: current,
@@ -298,7 +298,7 @@ fn cosine_along(
         (edgesOf (now (smaller .entry)) (now (larger .entry))) k ⌝ }
 {
     let next = other_end(smaller[k], larger[k], arrival.node);
-    arrival.cosine(vector::point2(points, wide(next)))
+    arrival.cosine(vector::coord2(points, wide(next)))
 }
 
 // The last edge of each point, by its number.

@@ -57,8 +57,8 @@ fn weld_segment(
         (welded .points) (now (points .entry)) (welded .edges) (now (smaller .entry)) (now (larger .entry))
         (r .points) (now (points .exit)) (r .edges) (now (smaller .exit)) (now (larger .exit)) ⌝ }
 {
-    let p = vector::point2(segments, 2 * i);
-    let q = vector::point2(segments, 2 * i + 1);
+    let p = vector::coord2(segments, 2 * i);
+    let q = vector::coord2(segments, 2 * i + 1);
     let a = push_coord(points, welded.points, p, tol2);
     let b = push_coord(points, a.points, q, tol2);
     let m = add_edge(
@@ -107,7 +107,7 @@ fn find(points: &[f64], n: usize, p: Vec2, tol2: f64) -> usize
 {
     let mut k = 0;
     while k < n {
-        if vector::point2(points, k).dist2(p) <= tol2 {
+        if vector::coord2(points, k).dist2(p) <= tol2 {
             return k;
         }
         k += 1;

@@ -28,11 +28,11 @@ add-j c = omega arith
 mul-j : tie.Need-mul-j Inv-loop μ-loop
 mul-j c = omega arith
 
-mul-point3 : tie.Need-mul-point3 Inv-loop μ-loop
-mul-point3 c = omega arith
+mul-coord3 : tie.Need-mul-coord3 Inv-loop μ-loop
+mul-coord3 c = omega arith
 
-point3-requires : tie.Need-point3-requires Inv-loop μ-loop
-point3-requires c κs = omega arith
+coord3-requires : tie.Need-coord3-requires Inv-loop μ-loop
+coord3-requires c κs = omega arith
 
 project-requires : tie.Need-project-requires Inv-loop μ-loop
 project-requires c κs = search needs
@@ -43,14 +43,14 @@ put2-requires c κs = omega arith
 add-put2 : tie.Need-add-put2 Inv-loop μ-loop
 add-put2 c = omega arith
 
-mul-point3-2 : tie.Need-mul-point3-2 Inv-loop μ-loop
-mul-point3-2 c = omega arith
+mul-coord3-2 : tie.Need-mul-coord3-2 Inv-loop μ-loop
+mul-coord3-2 c = omega arith
 
-add-point3 : tie.Need-add-point3 Inv-loop μ-loop
-add-point3 c = omega arith
+add-coord3 : tie.Need-add-coord3 Inv-loop μ-loop
+add-coord3 c = omega arith
 
-point3-requires-2 : tie.Need-point3-requires-2 Inv-loop μ-loop
-point3-requires-2 c κs = omega arith
+coord3-requires-2 : tie.Need-coord3-requires-2 Inv-loop μ-loop
+coord3-requires-2 c κs = omega arith
 
 project-requires-2 : tie.Need-project-requires-2 Inv-loop μ-loop
 project-requires-2 c κs = search needs
@@ -71,7 +71,7 @@ loop-again c =
     let first = c .before .before .before .before .before .before .before .before .put2 in
     let second = c .before .before .put22 in
     carrying-step v (c .before .before .before .before .before .before .before .before .before .before .before .before .loop-test .taken) (omega (arith, c .before .before .before .before .before .before .before .before .before .before .before .before .before .before .before .before .pre))
-    (by-ends (project (frameOf (c .before .before .before .before .before .before .before .before .before .before .before .before .before .before .before .before .args .plane))) (c .before .before .before .before .before .before .before .before .before .before .point3 .ensures) (c .before .before .before .before .before .before .before .before .before .project .ensures) (c .before .before .before .before .point32 .ensures)
+    (by-ends (project (frameOf (c .before .before .before .before .before .before .before .before .before .before .before .before .before .before .before .before .args .plane))) (c .before .before .before .before .before .before .before .before .before .before .coord3 .ensures) (c .before .before .before .before .before .before .before .before .before .project .ensures) (c .before .before .before .before .coord32 .ensures)
     (c .before .before .before .project2 .ensures)) refl refl (first .ensures) (second .ensures) (second .kept .0 ∙ first .kept .0 ∙ v .same-length)
 
 add-result : tie.Need-add-result Inv-loop μ-loop
@@ -92,14 +92,14 @@ project-segments-spec =
     loop-holds
     add-j
     mul-j
-    mul-point3
-    point3-requires
+    mul-coord3
+    coord3-requires
     project-requires
     put2-requires
     add-put2
-    mul-point3-2
-    add-point3
-    point3-requires-2
+    mul-coord3-2
+    add-coord3
+    coord3-requires-2
     project-requires-2
     put2-requires-2
     add-i

@@ -13,11 +13,11 @@ returns c = let s = c .before .before .before in origin-long 3 (through (s .args
 returns-2 : tie.Need-returns-2
 returns-2 c = let s = c .before .before .before .before in vector-long 3 (through (s .args .origin .now) (s .args .vector .now)) (frameIn (frameBy (s .args .way) (s .args .origin .now) (s .args .vector .now))) (c .before .if1 .left) (c .if2 .taken)
 
-point3-requires : tie.Need-point3-requires
-point3-requires c κs = search needs
+coord3-requires : tie.Need-coord3-requires
+coord3-requires c κs = search needs
 
-point3-requires-2 : tie.Need-point3-requires-2
-point3-requires-2 c κs = search needs
+coord3-requires-2 : tie.Need-coord3-requires-2
+coord3-requires-2 c κs = search needs
 
 plane-by-requires : tie.Need-plane-by-requires
 plane-by-requires c κs = search needs
@@ -32,13 +32,13 @@ returns-3 : tie.Need-returns-3
 returns-3 c =
     let s = c .before .before .before .before .before .before .before .before .before .before in
     ap (λ r. frameIn (view.placed r)) (sym (c .before .p .given .1))
-    ∙ frame-made (s .args .way) (through (s .args .origin .now) (s .args .vector .now)) (c .before .before .before .before .before .before .before .if1 .left) (c .before .before .before .before .before .before .if2 .left) (c .before .before .before .before .before .point3 .ensures) (c .before .before .before .before .point32 .ensures) (c .before .before .before .plane-by .ensures)
+    ∙ frame-made (s .args .way) (through (s .args .origin .now) (s .args .vector .now)) (c .before .before .before .before .before .before .before .if1 .left) (c .before .before .before .before .before .before .if2 .left) (c .before .before .before .before .before .coord3 .ensures) (c .before .before .before .before .coord32 .ensures) (c .before .before .before .plane-by .ensures)
 
 returns-4 : tie.Need-returns-4
 returns-4 c =
     let s = c .before .before .before .before .before .before .before .before .before in
     ap (λ r. frameIn (view.placed r)) (sym (c .enum-told .given .1))
-    ∙ frame-made (s .args .way) (through (s .args .origin .now) (s .args .vector .now)) (c .before .before .before .before .before .before .if1 .left) (c .before .before .before .before .before .if2 .left) (c .before .before .before .before .point3 .ensures) (c .before .before .before .point32 .ensures) (c .before .before .plane-by .ensures)
+    ∙ frame-made (s .args .way) (through (s .args .origin .now) (s .args .vector .now)) (c .before .before .before .before .before .before .if1 .left) (c .before .before .before .before .before .if2 .left) (c .before .before .before .before .coord3 .ensures) (c .before .before .before .coord32 .ensures) (c .before .before .plane-by .ensures)
 
 pub place-spec : {M : Type 1} → statement M
 place-spec =
@@ -46,8 +46,8 @@ place-spec =
     (tie.spec
     returns
     returns-2
-    point3-requires
-    point3-requires-2
+    coord3-requires
+    coord3-requires-2
     plane-by-requires
     enum-known-p
     enum-told

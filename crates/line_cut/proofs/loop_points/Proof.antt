@@ -30,8 +30,8 @@ shared-slice-read-wide c = omega arith
 wide-requires : tie.Need-wide-requires Inv-loop μ-loop
 wide-requires c κs = search needs
 
-point2-requires : tie.Need-point2-requires Inv-loop μ-loop
-point2-requires c κs =
+coord2-requires : tie.Need-coord2-requires Inv-loop μ-loop
+coord2-requires c κs =
     let s = c .before .before .before .before .before .before .before .before in
     omega (
       arith,
@@ -63,7 +63,7 @@ loop-again c =
     let s = c .before .before .before .before .before .before .before .before .before .before .before .before in
     listing-step (c .before .before .before .before .before .before .before .before .loop .inv) (c .before .before .before .before .before
     .before .before .loop-test .taken) (s .pre .2)
-    (point-is (s .args .points .now) (s .args .p) _ _ _ (c .before .before .before .point2 .ensures) (c .before .before .before .before
+    (point-is (s .args .points .now) (s .args .p) _ _ _ (c .before .before .before .coord2 .ensures) (c .before .before .before .before
     .before .wide .ensures) (s .pre .1 (c .before .before .before .before .before .before .before .before .loop .i) (c .before .before
     .before .before .before .before .before .loop-test .taken)))
     refl (c .before .before .put2 .ensures) (c .before .before .put2 .kept .0)
@@ -84,7 +84,7 @@ loop-points-spec =
     mul-wide
     shared-slice-read-wide
     wide-requires
-    point2-requires
+    coord2-requires
     put2-requires
     add-i
     loop-less

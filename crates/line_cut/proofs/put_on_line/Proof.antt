@@ -26,11 +26,11 @@ add-j c = omega arith
 mul-j : tie.Need-mul-j Inv-loop μ-loop
 mul-j c = omega arith
 
-mul-point2 : tie.Need-mul-point2 Inv-loop μ-loop
-mul-point2 c = omega arith
+mul-coord2 : tie.Need-mul-coord2 Inv-loop μ-loop
+mul-coord2 c = omega arith
 
-point2-requires : tie.Need-point2-requires Inv-loop μ-loop
-point2-requires c κs = omega arith
+coord2-requires : tie.Need-coord2-requires Inv-loop μ-loop
+coord2-requires c κs = omega arith
 
 on-line-requires : tie.Need-on-line-requires Inv-loop μ-loop
 on-line-requires c κs = search needs
@@ -41,14 +41,14 @@ put3-requires c κs = omega arith
 add-put3 : tie.Need-add-put3 Inv-loop μ-loop
 add-put3 c = omega arith
 
-mul-point2-2 : tie.Need-mul-point2-2 Inv-loop μ-loop
-mul-point2-2 c = omega arith
+mul-coord2-2 : tie.Need-mul-coord2-2 Inv-loop μ-loop
+mul-coord2-2 c = omega arith
 
-add-point2 : tie.Need-add-point2 Inv-loop μ-loop
-add-point2 c = omega arith
+add-coord2 : tie.Need-add-coord2 Inv-loop μ-loop
+add-coord2 c = omega arith
 
-point2-requires-2 : tie.Need-point2-requires-2 Inv-loop μ-loop
-point2-requires-2 c κs = omega arith
+coord2-requires-2 : tie.Need-coord2-requires-2 Inv-loop μ-loop
+coord2-requires-2 c κs = omega arith
 
 on-line-requires-2 : tie.Need-on-line-requires-2 Inv-loop μ-loop
 on-line-requires-2 c κs = search needs
@@ -71,9 +71,9 @@ loop-again c =
     let second = c .before .before .put32 in
     carrying-step v (c .before .before .before .before .before .before .before .before .before .before .before .before .loop-test .taken)
     (omega (arith, s .pre .1))
-    (by-ends (onLine (frameOf (s .args .plane))) (c .before .before .before .before .before .before .before .before .before .before .point2
+    (by-ends (onLine (frameOf (s .args .plane))) (c .before .before .before .before .before .before .before .before .before .before .coord2
     .ensures) (c .before .before .before .before .before .before .before .before .before .on-line .ensures) (c .before .before .before
-    .before .point22 .ensures) (c .before .before .before .on-line2 .ensures)) refl refl
+    .before .coord22 .ensures) (c .before .before .before .on-line2 .ensures)) refl refl
     (first .ensures) (second .ensures) (second .kept .0 ∙ first .kept .0 ∙ v .same-length)
 
 add-result : tie.Need-add-result Inv-loop μ-loop
@@ -94,14 +94,14 @@ put-on-line-spec =
     loop-holds
     add-j
     mul-j
-    mul-point2
-    point2-requires
+    mul-coord2
+    coord2-requires
     on-line-requires
     put3-requires
     add-put3
-    mul-point2-2
-    add-point2
-    point2-requires-2
+    mul-coord2-2
+    add-coord2
+    coord2-requires-2
     on-line-requires-2
     put3-requires-2
     add-i

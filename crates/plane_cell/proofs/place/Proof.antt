@@ -15,8 +15,8 @@ returns c = let s = c .before .before .before in origin-long 2 (through (s .args
 returns-2 : tie.Need-returns-2
 returns-2 c = let s = c .before .before .before .before in vector-long 2 (through (s .args .origin .now) (s .args .vector .now)) (lineWith (s .args .origin .now) (s .args .tol) (normalBy (s .args .way) (s .args .vector .now))) (c .before .if1 .left) (c .if2 .taken)
 
-point2-requires : tie.Need-point2-requires
-point2-requires c κs = search needs
+coord2-requires : tie.Need-coord2-requires
+coord2-requires c κs = search needs
 
 normal-by-requires : tie.Need-normal-by-requires
 normal-by-requires c κs = search needs
@@ -24,8 +24,8 @@ normal-by-requires c κs = search needs
 enum-known-n : tie.Need-enum-known-n
 enum-known-n c = search needs
 
-point2-requires-2 : tie.Need-point2-requires-2
-point2-requires-2 c κs = search needs
+coord2-requires-2 : tie.Need-coord2-requires-2
+coord2-requires-2 c κs = search needs
 
 enum-told : tie.Need-enum-told
 enum-told c = search needs
@@ -33,14 +33,14 @@ enum-told c = search needs
 returns-3 : tie.Need-returns-3
 returns-3 c =
     let s = c .before .before .before .before .before .before .before .before .before .before in
-    ap (λ x. lineWith (vec2 (c .point22 .result)) (s .args .tol) (unit2 x)) (sym (c .before .before .n .given .1))
-    ∙ line-made (s .args .way) (through (s .args .origin .now) (s .args .vector .now)) (s .args .tol) (c .before .before .before .before .before .before .before .if1 .left) (c .before .before .before .before .before .before .if2 .left) (c .point22 .ensures) (c .before .before .before .before .before .point2 .ensures) (c .before .before .before .before .normal-by .ensures)
+    ap (λ x. lineWith (vec2 (c .coord22 .result)) (s .args .tol) (unit2 x)) (sym (c .before .before .n .given .1))
+    ∙ line-made (s .args .way) (through (s .args .origin .now) (s .args .vector .now)) (s .args .tol) (c .before .before .before .before .before .before .before .if1 .left) (c .before .before .before .before .before .before .if2 .left) (c .coord22 .ensures) (c .before .before .before .before .before .coord2 .ensures) (c .before .before .before .before .normal-by .ensures)
 
 returns-4 : tie.Need-returns-4
 returns-4 c =
     let s = c .before .before .before .before .before .before .before .before in
     ap (λ x. lineWith (s .args .origin .now) (s .args .tol) (unit2 x)) (sym (c .enum-told .given .1))
-    ∙ line-made (s .args .way) (through (s .args .origin .now) (s .args .vector .now)) (s .args .tol) (c .before .before .before .before .before .if1 .left) (c .before .before .before .before .if2 .left) (sym (whole-row 2 (s .args .origin .now) (c .before .before .before .before .before .if1 .left))) (c .before .before .before .point2 .ensures) (c .before .before .normal-by .ensures)
+    ∙ line-made (s .args .way) (through (s .args .origin .now) (s .args .vector .now)) (s .args .tol) (c .before .before .before .before .before .if1 .left) (c .before .before .before .before .if2 .left) (sym (whole-row 2 (s .args .origin .now) (c .before .before .before .before .before .if1 .left))) (c .before .before .before .coord2 .ensures) (c .before .before .normal-by .ensures)
 
 pub place-spec : {M : Type 1} → statement M
 place-spec =
@@ -48,10 +48,10 @@ place-spec =
     (tie.spec
     returns
     returns-2
-    point2-requires
+    coord2-requires
     normal-by-requires
     enum-known-n
-    point2-requires-2
+    coord2-requires-2
     enum-told
     returns-3
     returns-4)

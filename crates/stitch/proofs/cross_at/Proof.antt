@@ -13,14 +13,14 @@ use Rattle.stitch.proofs.cross_at.Tie as tie
 wide-requires : tie.Need-wide-requires
 wide-requires c κs = search needs
 
-point2-requires : tie.Need-point2-requires
-point2-requires c κs = search needs
+coord2-requires : tie.Need-coord2-requires
+coord2-requires c κs = search needs
 
 wide-requires-2 : tie.Need-wide-requires-2
 wide-requires-2 c κs = search needs
 
-point2-requires-2 : tie.Need-point2-requires-2
-point2-requires-2 c κs = search needs
+coord2-requires-2 : tie.Need-coord2-requires-2
+coord2-requires-2 c κs = search needs
 
 returns : tie.Need-returns
 returns c =
@@ -28,16 +28,16 @@ returns c =
     let zs = g .points .now in
     let p =
     point-is zs (g .n) (g .a) (c .before .before .before .before .before .before .before .wide .result) _
-    (c .before .before .before .before .before .before .point2 .ensures)
+    (c .before .before .before .before .before .before .coord2 .ensures)
     (c .before .before .before .before .before .before .before .wide .ensures)
     (c .before .before .before .before .before .before .before .before .before .pre .1) in
     let q =
     point-is zs (g .n) (g .b) (c .before .before .before .before .before .wide2 .result) _
-    (c .before .before .before .before .point22 .ensures) (c .before .before .before .before .before .wide2 .ensures)
+    (c .before .before .before .before .coord22 .ensures) (c .before .before .before .before .before .wide2 .ensures)
     (c .before .before .before .before .before .before .before .before .before .pre .2) in
-    ap (λ (v : Vector). cross2 v (vec2 (c .before .before .before .before .point22 .result))) p ∙ ap
+    ap (λ (v : Vector). cross2 v (vec2 (c .before .before .before .before .coord22 .result))) p ∙ ap
     (cross2 (pointAt (rows 2 (g .n) zs) (g .a))) q
 
 pub cross-at-spec : {M : Type 1} → statement M
 cross-at-spec =
-    tie.close (tie.spec wide-requires point2-requires wide-requires-2 point2-requires-2 returns)
+    tie.close (tie.spec wide-requires coord2-requires wide-requires-2 coord2-requires-2 returns)

@@ -4,11 +4,11 @@ use borrow.Author.Needs.{needs}
 use Rattle.trial.proofs.plane_segments.Statement.{statement}
 use Rattle.trial.proofs.plane_segments.Tie as tie
 
-point2-requires : tie.Need-point2-requires
-point2-requires c κs = search needs
+coord2-requires : tie.Need-coord2-requires
+coord2-requires c κs = search needs
 
-point2-requires-2 : tie.Need-point2-requires-2
-point2-requires-2 c κs = search needs
+coord2-requires-2 : tie.Need-coord2-requires-2
+coord2-requires-2 c κs = search needs
 
 plane-section-segments-requires : tie.Need-plane-section-segments-requires
 plane-section-segments-requires c κs = search needs
@@ -22,15 +22,15 @@ same-length-2 c = search needs
 returns : tie.Need-returns
 returns c =
     let g = c .before .before .before .before .before .before .before .before .before .before .before .before .before .args in
-    clips-by-rows 2 (g .n) (g .poly .now) (g .placed .now) (g .tol) _ _ _ _ _ (c .before .before .before .before .before .before .before .before .point2 .ensures) (c .before .before .before .before .before .before .before .point22 .ensures)
+    clips-by-rows 2 (g .n) (g .poly .now) (g .placed .now) (g .tol) _ _ _ _ _ (c .before .before .before .before .before .before .before .before .coord2 .ensures) (c .before .before .before .before .before .before .before .coord22 .ensures)
     (c .before .before .before .before .plane-section-segments .ensures .segments)
 
 pub plane-segments-spec : {M : Type 1} → statement M
 plane-segments-spec =
     tie.close
     (tie.spec
-    point2-requires
-    point2-requires-2
+    coord2-requires
+    coord2-requires-2
     plane-section-segments-requires
     same-length
     same-length-2

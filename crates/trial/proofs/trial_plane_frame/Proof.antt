@@ -13,11 +13,11 @@ returns c = it-does-not-fit (λ f. omega arith) (refl, refl)
 returns-2 : tie.Need-returns-2
 returns-2 c = it-does-not-fit (λ f. omega arith) (refl, refl)
 
-point3-requires : tie.Need-point3-requires
-point3-requires c κs = search needs
+coord3-requires : tie.Need-coord3-requires
+coord3-requires c κs = search needs
 
-point3-requires-2 : tie.Need-point3-requires-2
-point3-requires-2 c κs = search needs
+coord3-requires-2 : tie.Need-coord3-requires-2
+coord3-requires-2 c κs = search needs
 
 new-requires : tie.Need-new-requires
 new-requires c κs = search needs
@@ -32,8 +32,8 @@ returns-3 : tie.Need-returns-3
 returns-3 c =
     it-fits (omega arith, omega arith) (frame-by-rows planeOf
     (c .before .before .before .before .before .before .before .before .before .before .before .args .placed .now) _ _
-    (c .before .before .before .before .before .before .point3 .ensures)
-    (c .before .before .before .before .before .point32 .ensures) (c .before .before .before .before .new .ensures)
+    (c .before .before .before .before .before .before .coord3 .ensures)
+    (c .before .before .before .before .before .coord32 .ensures) (c .before .before .before .before .new .ensures)
     (c .before .before .put-frame .ensures))
 
 pub trial-plane-frame-spec : {M : Type 1} → statement M
@@ -42,8 +42,8 @@ trial-plane-frame-spec =
     (tie.spec
     returns
     returns-2
-    point3-requires
-    point3-requires-2
+    coord3-requires
+    coord3-requires-2
     new-requires
     put-frame-requires
     same-length

@@ -12,17 +12,17 @@ returns c = it-does-not-fit (λ f. omega arith) (refl, refl)
 returns-2 : tie.Need-returns-2
 returns-2 c = it-does-not-fit (λ f. omega arith) (refl, refl)
 
-point3-requires : tie.Need-point3-requires
-point3-requires c κs = search needs
+coord3-requires : tie.Need-coord3-requires
+coord3-requires c κs = search needs
 
-point3-requires-2 : tie.Need-point3-requires-2
-point3-requires-2 c κs = search needs
+coord3-requires-2 : tie.Need-coord3-requires-2
+coord3-requires-2 c κs = search needs
 
-point3-requires-3 : tie.Need-point3-requires-3
-point3-requires-3 c κs = search needs
+coord3-requires-3 : tie.Need-coord3-requires-3
+coord3-requires-3 c κs = search needs
 
-point3-requires-4 : tie.Need-point3-requires-4
-point3-requires-4 c κs = search needs
+coord3-requires-4 : tie.Need-coord3-requires-4
+coord3-requires-4 c κs = search needs
 
 project-requires : tie.Need-project-requires
 project-requires c κs = search needs
@@ -41,10 +41,10 @@ returns-3 c =
       projected-by-rows
           (c .before .before .before .before .before .before .before .before .before .before .before .before .before .args .rows .now)
           (c .before .before .before .before .before .before .before .before .before .before .before .before .before .args .out .now) _ _ _ _
-          (c .before .before .before .before .before .before .before .before .point3 .ensures)
-          (c .before .before .before .before .before .before .before .point32 .ensures)
-          (c .before .before .before .before .before .before .point33 .ensures)
-          (c .before .before .before .before .point34 .ensures) (c .before .before .before .project .ensures)
+          (c .before .before .before .before .before .before .before .before .coord3 .ensures)
+          (c .before .before .before .before .before .before .before .coord32 .ensures)
+          (c .before .before .before .before .before .before .coord33 .ensures)
+          (c .before .before .before .before .coord34 .ensures) (c .before .before .before .project .ensures)
           (c .before .before .put2 .ensures),
     )
 
@@ -54,10 +54,10 @@ trial-project-spec =
     (tie.spec
     returns
     returns-2
-    point3-requires
-    point3-requires-2
-    point3-requires-3
-    point3-requires-4
+    coord3-requires
+    coord3-requires-2
+    coord3-requires-3
+    coord3-requires-4
     project-requires
     put2-requires
     same-length

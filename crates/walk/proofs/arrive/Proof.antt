@@ -10,14 +10,14 @@ use Rattle.walk.proofs.arrive.Tie as tie
 wide-requires : tie.Need-wide-requires
 wide-requires c κs = search needs
 
-point2-requires : tie.Need-point2-requires
-point2-requires c κs = search needs
+coord2-requires : tie.Need-coord2-requires
+coord2-requires c κs = search needs
 
 wide-requires-2 : tie.Need-wide-requires-2
 wide-requires-2 c κs = search needs
 
-point2-requires-2 : tie.Need-point2-requires-2
-point2-requires-2 c κs = search needs
+coord2-requires-2 : tie.Need-coord2-requires-2
+coord2-requires-2 c κs = search needs
 
 minus-requires : tie.Need-minus-requires
 minus-requires c κs = search needs
@@ -34,10 +34,10 @@ returns c =
     let zs = g .points .now in
     let here =
     point-is zs (g .n) (g .current) (c .before .before .before .before .before .before .wide .result) _
-    (c .before .before .before .before .before .point2 .ensures) (c .before .before .before .before .before .before .wide .ensures)
+    (c .before .before .before .before .before .coord2 .ensures) (c .before .before .before .before .before .before .wide .ensures)
     (c .before .before .before .before .before .before .before .before .pre .2) in
     let there =
-    point-is zs (g .n) (g .previous) (c .before .before .before .before .wide2 .result) _ (c .before .before .before .point22 .ensures)
+    point-is zs (g .n) (g .previous) (c .before .before .before .before .wide2 .result) _ (c .before .before .before .coord22 .ensures)
     (c .before .before .before .before .wide2 .ensures) (c .before .before .before .before .before .before .before .before .pre .1) in
     record {
       node = refl;
@@ -51,9 +51,9 @@ arrive-spec =
     tie.close
     (tie.spec
     wide-requires
-    point2-requires
+    coord2-requires
     wide-requires-2
-    point2-requires-2
+    coord2-requires-2
     minus-requires
     dot-requires
     sqrt-requires

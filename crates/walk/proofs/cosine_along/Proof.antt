@@ -39,8 +39,8 @@ other-end-requires c κs = search needs
 wide-requires : tie.Need-wide-requires
 wide-requires c κs = search needs
 
-point2-requires : tie.Need-point2-requires
-point2-requires c κs =
+coord2-requires : tie.Need-coord2-requires
+coord2-requires c κs =
     omega (arith, below (c .before), c .wide .ensures, c .before .before .before .before .before .before .before .pre .0 .room)
 
 cosine-requires : tie.Need-cosine-requires
@@ -52,7 +52,7 @@ returns c =
     let ps = rows 2 (g .n) (g .points .now) in
     let there =
     point-is (g .points .now) (g .n) (c .before .before .before .other-end .result) (c .before .before .wide .result) _
-    (c .before .point2 .ensures) (c .before .before .wide .ensures) (below (c .before .before .before)) in
+    (c .before .coord2 .ensures) (c .before .before .wide .ensures) (below (c .before .before .before)) in
     let far =
     other-is (g .smaller .now) (g .larger .now) (g .arrival .node) (g .k) (c .before .before .before .other-end .result)
     (c .before .before .before .before .before .before .before .before .before .pre .0 .same)
@@ -70,6 +70,6 @@ cosine-along-spec =
     shared-slice-read-other-end-2
     other-end-requires
     wide-requires
-    point2-requires
+    coord2-requires
     cosine-requires
     returns)

@@ -16,8 +16,8 @@ abbrev μ-loop : tie.MeasureT-loop
 loop-holds : tie.Need-loop-holds Inv-loop μ-loop
 loop-holds c = finding-start
 
-point2-requires : tie.Need-point2-requires Inv-loop μ-loop
-point2-requires c κs = omega arith
+coord2-requires : tie.Need-coord2-requires Inv-loop μ-loop
+coord2-requires c κs = omega arith
 
 dist2-requires : tie.Need-dist2-requires Inv-loop μ-loop
 dist2-requires c κs = search needs
@@ -25,7 +25,7 @@ dist2-requires c κs = search needs
 returns : tie.Need-returns Inv-loop μ-loop
 returns c =
     let l = c .before .before .before in
-    finding-hit (l .before .loop .inv) (l .loop-test .taken) (c .before .before .point2 .ensures) (c .before .dist2 .ensures) (c .if1 .taken)
+    finding-hit (l .before .loop .inv) (l .loop-test .taken) (c .before .before .coord2 .ensures) (c .before .dist2 .ensures) (c .if1 .taken)
 
 add-k : tie.Need-add-k Inv-loop μ-loop
 add-k c = omega arith
@@ -36,7 +36,7 @@ loop-less c = omega arith
 loop-again : tie.Need-loop-again Inv-loop μ-loop
 loop-again c =
     let l = c .before .before .before in
-    finding-miss (l .before .loop .inv) (l .loop-test .taken) (c .before .before .point2 .ensures) (c .before .dist2 .ensures) (c .if1 .left)
+    finding-miss (l .before .loop .inv) (l .loop-test .taken) (c .before .before .coord2 .ensures) (c .before .dist2 .ensures) (c .if1 .left)
 
 returns-2 : tie.Need-returns-2 Inv-loop μ-loop
 returns-2 c = finding-end (c .before .loop .inv) (c .loop-test .left)
@@ -48,7 +48,7 @@ find-spec =
     Inv-loop
     μ-loop
     loop-holds
-    point2-requires
+    coord2-requires
     dist2-requires
     returns
     add-k

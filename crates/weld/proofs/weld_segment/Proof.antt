@@ -6,20 +6,20 @@ use Rattle.weld.proofs.Welding.{joined}
 use Rattle.weld.proofs.weld_segment.Statement.{statement}
 use Rattle.weld.proofs.weld_segment.Tie as tie
 
-mul-point2 : tie.Need-mul-point2
-mul-point2 c = search needs
+mul-coord2 : tie.Need-mul-coord2
+mul-coord2 c = search needs
 
-point2-requires : tie.Need-point2-requires
-point2-requires c κs = search needs
+coord2-requires : tie.Need-coord2-requires
+coord2-requires c κs = search needs
 
-mul-point2-2 : tie.Need-mul-point2-2
-mul-point2-2 c = search needs
+mul-coord2-2 : tie.Need-mul-coord2-2
+mul-coord2-2 c = search needs
 
-add-point2 : tie.Need-add-point2
-add-point2 c = search needs
+add-coord2 : tie.Need-add-coord2
+add-coord2 c = search needs
 
-point2-requires-2 : tie.Need-point2-requires-2
-point2-requires-2 c κs = search needs
+coord2-requires-2 : tie.Need-coord2-requires-2
+coord2-requires-2 c κs = search needs
 
 push-coord-requires : tie.Need-push-coord-requires
 push-coord-requires c κs = search needs
@@ -49,17 +49,17 @@ returns c =
     let a = b .before .before .before .before in
     let q = a .before .before in
     let p = q .before in
-    rw (← p .point2 .ensures, ← q .point22 .ensures) (joined (a .push-coord .ensures) (b .push-coord2 .ensures) (e .add-edge .ensures))
+    rw (← p .coord2 .ensures, ← q .coord22 .ensures) (joined (a .push-coord .ensures) (b .push-coord2 .ensures) (e .add-edge .ensures))
 
 pub weld-segment-spec : {M : Type 1} → statement M
 weld-segment-spec =
     tie.close
     (tie.spec
-    mul-point2
-    point2-requires
-    mul-point2-2
-    add-point2
-    point2-requires-2
+    mul-coord2
+    coord2-requires
+    mul-coord2-2
+    add-coord2
+    coord2-requires-2
     push-coord-requires
     push-coord-requires-2
     add-edge-requires

@@ -17,20 +17,20 @@ abbrev μ-loop : tie.MeasureT-loop
 loop-holds : tie.Need-loop-holds Inv-loop μ-loop
 loop-holds c = let g = c .before .args in searching-start 2 (g .k) (g .out .now) (g .tol2) (seg (vec2 (g .a)) (vec2 (g .b)))
 
-mul-point2 : tie.Need-mul-point2 Inv-loop μ-loop
-mul-point2 c = omega arith
+mul-coord2 : tie.Need-mul-coord2 Inv-loop μ-loop
+mul-coord2 c = omega arith
 
-point2-requires : tie.Need-point2-requires Inv-loop μ-loop
-point2-requires c κs = omega arith
+coord2-requires : tie.Need-coord2-requires Inv-loop μ-loop
+coord2-requires c κs = omega arith
 
-mul-point2-2 : tie.Need-mul-point2-2 Inv-loop μ-loop
-mul-point2-2 c = omega arith
+mul-coord2-2 : tie.Need-mul-coord2-2 Inv-loop μ-loop
+mul-coord2-2 c = omega arith
 
-add-point2 : tie.Need-add-point2 Inv-loop μ-loop
-add-point2 c = omega arith
+add-coord2 : tie.Need-add-coord2 Inv-loop μ-loop
+add-coord2 c = omega arith
 
-point2-requires-2 : tie.Need-point2-requires-2 Inv-loop μ-loop
-point2-requires-2 c κs = omega arith
+coord2-requires-2 : tie.Need-coord2-requires-2 Inv-loop μ-loop
+coord2-requires-2 c κs = omega arith
 
 alike-requires : tie.Need-alike-requires Inv-loop μ-loop
 alike-requires c κs = search needs
@@ -38,8 +38,8 @@ alike-requires c κs = search needs
 returns : tie.Need-returns Inv-loop μ-loop
 returns c =
     searching-hit (c .before .before .before .before .before .loop .inv)
-    (c .before .before .before .before .loop-test .taken) (c .before .before .before .point2 .ensures)
-    (c .before .before .point22 .ensures) (c .before .alike .ensures) (c .if1 .taken)
+    (c .before .before .before .before .loop-test .taken) (c .before .before .before .coord2 .ensures)
+    (c .before .before .coord22 .ensures) (c .before .alike .ensures) (c .if1 .taken)
 
 add-i : tie.Need-add-i Inv-loop μ-loop
 add-i c = omega arith
@@ -50,8 +50,8 @@ loop-less c = omega arith
 loop-again : tie.Need-loop-again Inv-loop μ-loop
 loop-again c =
     searching-step (c .before .before .before .before .before .loop .inv)
-    (c .before .before .before .before .loop-test .taken) (c .before .before .before .point2 .ensures)
-    (c .before .before .point22 .ensures) (c .before .alike .ensures) (c .if1 .left)
+    (c .before .before .before .before .loop-test .taken) (c .before .before .before .coord2 .ensures)
+    (c .before .before .coord22 .ensures) (c .before .alike .ensures) (c .if1 .left)
 
 returns-2 : tie.Need-returns-2 Inv-loop μ-loop
 returns-2 c = searching-end (c .before .loop .inv) (c .loop-test .left)
@@ -63,11 +63,11 @@ duplicate-spec =
     Inv-loop
     μ-loop
     loop-holds
-    mul-point2
-    point2-requires
-    mul-point2-2
-    add-point2
-    point2-requires-2
+    mul-coord2
+    coord2-requires
+    mul-coord2-2
+    add-coord2
+    coord2-requires-2
     alike-requires
     returns
     add-i

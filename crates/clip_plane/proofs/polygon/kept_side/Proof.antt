@@ -22,8 +22,8 @@ sub-distances c = omega arith
 loop-holds : tie.Need-loop-holds Inv-loop μ-loop
 loop-holds c = let g = c .before .before .args in looking-start 2 (g .n) (g .polygon .now) (cut2 (g .cut)) (g .points .now)
 
-point2-requires : tie.Need-point2-requires Inv-loop μ-loop
-point2-requires c κs = omega arith
+coord2-requires : tie.Need-coord2-requires Inv-loop μ-loop
+coord2-requires c κs = omega arith
 
 distance-requires : tie.Need-distance-requires Inv-loop μ-loop
 distance-requires c κs = search needs
@@ -51,7 +51,7 @@ loop-less c = omega arith
 
 loop-again : tie.Need-loop-again Inv-loop μ-loop
 loop-again c =
-    looking-step (c .before .before .before .before .before .before .before .loop .inv) (c .before .before .before .before .before .before .loop-test .taken) (c .before .before .before .before .before .point2 .ensures) (c .before .before .before .before .distance .ensures) (c .before .before .before .before .before .before .before .before .before .before .pre .1) refl
+    looking-step (c .before .before .before .before .before .before .before .loop .inv) (c .before .before .before .before .before .before .loop-test .taken) (c .before .before .before .before .before .coord2 .ensures) (c .before .before .before .before .distance .ensures) (c .before .before .before .before .before .before .before .before .before .before .pre .1) refl
     (c .before .before .count-if .ensures) (c .count-if2 .ensures)
 
 side-of-requires : tie.Need-side-of-requires Inv-loop μ-loop
@@ -71,7 +71,7 @@ kept-side-spec =
     μ-loop
     sub-distances
     loop-holds
-    point2-requires
+    coord2-requires
     distance-requires
     add-points
     mul-points

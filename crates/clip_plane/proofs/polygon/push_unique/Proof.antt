@@ -22,11 +22,11 @@ returns c =
     push-first 2 (g .points .now) (g .m) (vec2 (g .p)) (g .tol2) (c .before .before .before .before .if1 .taken) refl
     (c .before .before .before .before .before .before .pre) (c .before .before .put2 .ensures)
 
-sub-point2 : tie.Need-sub-point2
-sub-point2 c = search needs
+sub-coord2 : tie.Need-sub-coord2
+sub-coord2 c = search needs
 
-point2-requires : tie.Need-point2-requires
-point2-requires c κs = search needs
+coord2-requires : tie.Need-coord2-requires
+coord2-requires c κs = search needs
 
 dist2-requires : tie.Need-dist2-requires
 dist2-requires c κs = search needs
@@ -44,7 +44,7 @@ returns-2 : tie.Need-returns-2
 returns-2 c =
     let g = c .before .before .before .before .before .before .before .before .before .before .args in
     push-far 2 (g .points .now) (g .m) (vec2 (g .p)) (g .tol2) (omega arith)
-    (c .before .before .before .before .before .before .point2 .ensures)
+    (c .before .before .before .before .before .before .coord2 .ensures)
     (c .before .before .before .before .before .dist2 .ensures) (c .before .before .before .before .if2 .taken) refl
     (c .before .before .before .before .before .before .before .before .before .before .pre)
     (c .before .before .put22 .ensures)
@@ -55,7 +55,7 @@ same-length-3 c = search needs
 returns-3 : tie.Need-returns-3
 returns-3 c =
     let g = c .before .before .before .before .before .before .args in
-    push-near 2 (g .points .now) (g .m) (vec2 (g .p)) (g .tol2) (omega arith) (c .before .before .point2 .ensures)
+    push-near 2 (g .points .now) (g .m) (vec2 (g .p)) (g .tol2) (omega arith) (c .before .before .coord2 .ensures)
     (c .before .dist2 .ensures) (c .if2 .left)
 
 pub push-unique-spec : {M : Type 1} → statement M
@@ -66,8 +66,8 @@ push-unique-spec =
     add-result
     same-length
     returns
-    sub-point2
-    point2-requires
+    sub-coord2
+    coord2-requires
     dist2-requires
     put2-requires-2
     add-result-2

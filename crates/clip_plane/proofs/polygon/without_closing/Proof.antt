@@ -9,14 +9,14 @@ returns : tie.Need-returns
 returns c =
     let g = c .before .before .args in (closing-few 2 (g .m) (g .points .now) (g .tol2) (c .if1 .taken), omega arith)
 
-point2-requires : tie.Need-point2-requires
-point2-requires c κs = search needs
+coord2-requires : tie.Need-coord2-requires
+coord2-requires c κs = search needs
 
-sub-point2 : tie.Need-sub-point2
-sub-point2 c = search needs
+sub-coord2 : tie.Need-sub-coord2
+sub-coord2 c = search needs
 
-point2-requires-2 : tie.Need-point2-requires-2
-point2-requires-2 c κs = search needs
+coord2-requires-2 : tie.Need-coord2-requires-2
+coord2-requires-2 c κs = search needs
 
 dist2-requires : tie.Need-dist2-requires
 dist2-requires c κs = search needs
@@ -28,7 +28,7 @@ returns-2 : tie.Need-returns-2
 returns-2 c =
     let g = c .before .before .before .before .before .before .args in (
       closing-near 2 (g .m) (g .points .now) (g .tol2) (omega arith)
-          (c .before .before .before .point2 .ensures) (c .before .before .point22 .ensures) (c .before .dist2 .ensures)
+          (c .before .before .before .coord2 .ensures) (c .before .before .coord22 .ensures) (c .before .dist2 .ensures)
           (c .if2 .taken),
       omega arith,
     )
@@ -37,7 +37,7 @@ returns-3 : tie.Need-returns-3
 returns-3 c =
     let g = c .before .before .before .before .before .before .args in (
       closing-far 2 (g .m) (g .points .now) (g .tol2) (omega arith)
-          (c .before .before .before .point2 .ensures) (c .before .before .point22 .ensures) (c .before .dist2 .ensures)
+          (c .before .before .before .coord2 .ensures) (c .before .before .coord22 .ensures) (c .before .dist2 .ensures)
           (c .if2 .left),
       omega arith,
     )
@@ -47,9 +47,9 @@ without-closing-spec =
     tie.close
     (tie.spec
     returns
-    point2-requires
-    sub-point2
-    point2-requires-2
+    coord2-requires
+    sub-coord2
+    coord2-requires-2
     dist2-requires
     sub-result
     returns-2

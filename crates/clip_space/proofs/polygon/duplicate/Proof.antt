@@ -17,20 +17,20 @@ abbrev μ-loop : tie.MeasureT-loop
 loop-holds : tie.Need-loop-holds Inv-loop μ-loop
 loop-holds c = let g = c .before .args in searching-start 3 (g .k) (g .out .now) (g .tol2) (seg (vec3 (g .a)) (vec3 (g .b)))
 
-mul-point3 : tie.Need-mul-point3 Inv-loop μ-loop
-mul-point3 c = omega arith
+mul-coord3 : tie.Need-mul-coord3 Inv-loop μ-loop
+mul-coord3 c = omega arith
 
-point3-requires : tie.Need-point3-requires Inv-loop μ-loop
-point3-requires c κs = omega arith
+coord3-requires : tie.Need-coord3-requires Inv-loop μ-loop
+coord3-requires c κs = omega arith
 
-mul-point3-2 : tie.Need-mul-point3-2 Inv-loop μ-loop
-mul-point3-2 c = omega arith
+mul-coord3-2 : tie.Need-mul-coord3-2 Inv-loop μ-loop
+mul-coord3-2 c = omega arith
 
-add-point3 : tie.Need-add-point3 Inv-loop μ-loop
-add-point3 c = omega arith
+add-coord3 : tie.Need-add-coord3 Inv-loop μ-loop
+add-coord3 c = omega arith
 
-point3-requires-2 : tie.Need-point3-requires-2 Inv-loop μ-loop
-point3-requires-2 c κs = omega arith
+coord3-requires-2 : tie.Need-coord3-requires-2 Inv-loop μ-loop
+coord3-requires-2 c κs = omega arith
 
 alike-requires : tie.Need-alike-requires Inv-loop μ-loop
 alike-requires c κs = search needs
@@ -38,8 +38,8 @@ alike-requires c κs = search needs
 returns : tie.Need-returns Inv-loop μ-loop
 returns c =
     searching-hit (c .before .before .before .before .before .loop .inv)
-    (c .before .before .before .before .loop-test .taken) (c .before .before .before .point3 .ensures)
-    (c .before .before .point32 .ensures) (c .before .alike .ensures) (c .if1 .taken)
+    (c .before .before .before .before .loop-test .taken) (c .before .before .before .coord3 .ensures)
+    (c .before .before .coord32 .ensures) (c .before .alike .ensures) (c .if1 .taken)
 
 add-i : tie.Need-add-i Inv-loop μ-loop
 add-i c = omega arith
@@ -50,8 +50,8 @@ loop-less c = omega arith
 loop-again : tie.Need-loop-again Inv-loop μ-loop
 loop-again c =
     searching-step (c .before .before .before .before .before .loop .inv)
-    (c .before .before .before .before .loop-test .taken) (c .before .before .before .point3 .ensures)
-    (c .before .before .point32 .ensures) (c .before .alike .ensures) (c .if1 .left)
+    (c .before .before .before .before .loop-test .taken) (c .before .before .before .coord3 .ensures)
+    (c .before .before .coord32 .ensures) (c .before .alike .ensures) (c .if1 .left)
 
 returns-2 : tie.Need-returns-2 Inv-loop μ-loop
 returns-2 c = searching-end (c .before .loop .inv) (c .loop-test .left)
@@ -63,11 +63,11 @@ duplicate-spec =
     Inv-loop
     μ-loop
     loop-holds
-    mul-point3
-    point3-requires
-    mul-point3-2
-    add-point3
-    point3-requires-2
+    mul-coord3
+    coord3-requires
+    mul-coord3-2
+    add-coord3
+    coord3-requires-2
     alike-requires
     returns
     add-i

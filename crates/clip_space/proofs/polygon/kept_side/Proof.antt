@@ -22,8 +22,8 @@ sub-distances c = omega arith
 loop-holds : tie.Need-loop-holds Inv-loop μ-loop
 loop-holds c = let g = c .before .before .args in looking-start 3 (g .n) (g .polygon .now) (cut3 (g .cut)) (g .points .now)
 
-point3-requires : tie.Need-point3-requires Inv-loop μ-loop
-point3-requires c κs = omega arith
+coord3-requires : tie.Need-coord3-requires Inv-loop μ-loop
+coord3-requires c κs = omega arith
 
 distance-requires : tie.Need-distance-requires Inv-loop μ-loop
 distance-requires c κs = search needs
@@ -51,7 +51,7 @@ loop-less c = omega arith
 
 loop-again : tie.Need-loop-again Inv-loop μ-loop
 loop-again c =
-    looking-step (c .before .before .before .before .before .before .before .loop .inv) (c .before .before .before .before .before .before .loop-test .taken) (c .before .before .before .before .before .point3 .ensures) (c .before .before .before .before .distance .ensures) (c .before .before .before .before .before .before .before .before .before .before .pre .1) refl
+    looking-step (c .before .before .before .before .before .before .before .loop .inv) (c .before .before .before .before .before .before .loop-test .taken) (c .before .before .before .before .before .coord3 .ensures) (c .before .before .before .before .distance .ensures) (c .before .before .before .before .before .before .before .before .before .before .pre .1) refl
     (c .before .before .count-if .ensures) (c .count-if2 .ensures)
 
 side-of-requires : tie.Need-side-of-requires Inv-loop μ-loop
@@ -71,7 +71,7 @@ kept-side-spec =
     μ-loop
     sub-distances
     loop-holds
-    point3-requires
+    coord3-requires
     distance-requires
     add-points
     mul-points

@@ -22,11 +22,11 @@ returns c =
     push-first 3 (g .points .now) (g .m) (vec3 (g .p)) (g .tol2) (c .before .before .before .before .if1 .taken) refl
     (c .before .before .before .before .before .before .pre) (c .before .before .put3 .ensures)
 
-sub-point3 : tie.Need-sub-point3
-sub-point3 c = search needs
+sub-coord3 : tie.Need-sub-coord3
+sub-coord3 c = search needs
 
-point3-requires : tie.Need-point3-requires
-point3-requires c κs = search needs
+coord3-requires : tie.Need-coord3-requires
+coord3-requires c κs = search needs
 
 dist2-requires : tie.Need-dist2-requires
 dist2-requires c κs = search needs
@@ -44,7 +44,7 @@ returns-2 : tie.Need-returns-2
 returns-2 c =
     let g = c .before .before .before .before .before .before .before .before .before .before .args in
     push-far 3 (g .points .now) (g .m) (vec3 (g .p)) (g .tol2) (omega arith)
-    (c .before .before .before .before .before .before .point3 .ensures)
+    (c .before .before .before .before .before .before .coord3 .ensures)
     (c .before .before .before .before .before .dist2 .ensures) (c .before .before .before .before .if2 .taken) refl
     (c .before .before .before .before .before .before .before .before .before .before .pre)
     (c .before .before .put32 .ensures)
@@ -55,7 +55,7 @@ same-length-3 c = search needs
 returns-3 : tie.Need-returns-3
 returns-3 c =
     let g = c .before .before .before .before .before .before .args in
-    push-near 3 (g .points .now) (g .m) (vec3 (g .p)) (g .tol2) (omega arith) (c .before .before .point3 .ensures)
+    push-near 3 (g .points .now) (g .m) (vec3 (g .p)) (g .tol2) (omega arith) (c .before .before .coord3 .ensures)
     (c .before .dist2 .ensures) (c .if2 .left)
 
 pub push-unique-spec : {M : Type 1} → statement M
@@ -66,8 +66,8 @@ push-unique-spec =
     add-result
     same-length
     returns
-    sub-point3
-    point3-requires
+    sub-coord3
+    coord3-requires
     dist2-requires
     put3-requires-2
     add-result-2

@@ -15,19 +15,19 @@ Inv-loop points m cut tol2 out₀ a₀ k₀ i₀ out a k i = Listing 3 (cut3 cut
 abbrev μ-loop : tie.MeasureT-loop
 μ-loop points m cut tol2 out₀ a₀ k₀ i₀ out a k i = m - i
 
-point3-requires : tie.Need-point3-requires Inv-loop μ-loop
-point3-requires c κs = omega arith
+coord3-requires : tie.Need-coord3-requires Inv-loop μ-loop
+coord3-requires c κs = omega arith
 
 loop-holds : tie.Need-loop-holds Inv-loop μ-loop
 loop-holds c =
     let g = c .before .before .before .args in
-    listing-start (cut3 (g .cut)) (g .tol2) (g .m) (g .out .now) (c .point3 .ensures)
+    listing-start (cut3 (g .cut)) (g .tol2) (g .m) (g .out .now) (c .coord3 .ensures)
 
 next-of-requires : tie.Need-next-of-requires Inv-loop μ-loop
 next-of-requires c κs = omega arith
 
-point3-requires-2 : tie.Need-point3-requires-2 Inv-loop μ-loop
-point3-requires-2 c κs = omega (arith, next-below (c .before .loop-test .taken) (c .next-of .ensures))
+coord3-requires-2 : tie.Need-coord3-requires-2 Inv-loop μ-loop
+coord3-requires-2 c κs = omega (arith, next-below (c .before .loop-test .taken) (c .next-of .ensures))
 
 push-segment-requires : tie.Need-push-segment-requires Inv-loop μ-loop
 push-segment-requires c κs = omega arith
@@ -42,7 +42,7 @@ loop-again : tie.Need-loop-again Inv-loop μ-loop
 loop-again c =
     listing-step (c .before .before .before .before .before .before .before .loop .inv)
     (c .before .before .before .before .before .before .loop-test .taken)
-    (c .before .before .before .before .before .next-of .ensures) (c .before .before .before .before .point32 .ensures)
+    (c .before .before .before .before .before .next-of .ensures) (c .before .before .before .before .coord32 .ensures)
     (c .before .before .push-segment .ensures) (c .before .before .push-segment .kept .0)
 
 same-length : tie.Need-same-length Inv-loop μ-loop
@@ -57,10 +57,10 @@ segments-spec =
     (tie.spec
     Inv-loop
     μ-loop
-    point3-requires
+    coord3-requires
     loop-holds
     next-of-requires
-    point3-requires-2
+    coord3-requires-2
     push-segment-requires
     add-i
     loop-less

@@ -9,14 +9,14 @@ returns : tie.Need-returns
 returns c =
     let g = c .before .before .args in (closing-few 3 (g .m) (g .points .now) (g .tol2) (c .if1 .taken), omega arith)
 
-point3-requires : tie.Need-point3-requires
-point3-requires c κs = search needs
+coord3-requires : tie.Need-coord3-requires
+coord3-requires c κs = search needs
 
-sub-point3 : tie.Need-sub-point3
-sub-point3 c = search needs
+sub-coord3 : tie.Need-sub-coord3
+sub-coord3 c = search needs
 
-point3-requires-2 : tie.Need-point3-requires-2
-point3-requires-2 c κs = search needs
+coord3-requires-2 : tie.Need-coord3-requires-2
+coord3-requires-2 c κs = search needs
 
 dist2-requires : tie.Need-dist2-requires
 dist2-requires c κs = search needs
@@ -28,7 +28,7 @@ returns-2 : tie.Need-returns-2
 returns-2 c =
     let g = c .before .before .before .before .before .before .args in (
       closing-near 3 (g .m) (g .points .now) (g .tol2) (omega arith)
-          (c .before .before .before .point3 .ensures) (c .before .before .point32 .ensures) (c .before .dist2 .ensures)
+          (c .before .before .before .coord3 .ensures) (c .before .before .coord32 .ensures) (c .before .dist2 .ensures)
           (c .if2 .taken),
       omega arith,
     )
@@ -37,7 +37,7 @@ returns-3 : tie.Need-returns-3
 returns-3 c =
     let g = c .before .before .before .before .before .before .args in (
       closing-far 3 (g .m) (g .points .now) (g .tol2) (omega arith)
-          (c .before .before .before .point3 .ensures) (c .before .before .point32 .ensures) (c .before .dist2 .ensures)
+          (c .before .before .before .coord3 .ensures) (c .before .before .coord32 .ensures) (c .before .dist2 .ensures)
           (c .if2 .left),
       omega arith,
     )
@@ -47,9 +47,9 @@ without-closing-spec =
     tie.close
     (tie.spec
     returns
-    point3-requires
-    sub-point3
-    point3-requires-2
+    coord3-requires
+    sub-coord3
+    coord3-requires-2
     dist2-requires
     sub-result
     returns-2

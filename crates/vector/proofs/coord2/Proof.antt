@@ -1,8 +1,8 @@
--- `vector::point2` meets its contract. Assumes nothing.
+-- `vector::coord2` meets its contract. Assumes nothing.
 use Rattle.vector.proofs.Rows.{row-of-two}
 use borrow.Author.Needs.{needs}
-use Rattle.vector.proofs.point2.Statement.{statement}
-use Rattle.vector.proofs.point2.Tie as tie
+use Rattle.vector.proofs.coord2.Statement.{statement}
+use Rattle.vector.proofs.coord2.Tie as tie
 
 mul-t3 : tie.Need-mul-t3
 mul-t3 c = search needs
@@ -28,8 +28,8 @@ shared-slice-read-t11 c = search needs
 returns : tie.Need-returns
 returns c = row-of-two (c .before .before .args .xs .now) (c .before .before .args .i) (c .before .before .pre)
 
-pub point2-spec : {M : Type 1} → statement M
-point2-spec =
+pub coord2-spec : {M : Type 1} → statement M
+coord2-spec =
     tie.close
     (tie.spec
     mul-t3

@@ -1,8 +1,8 @@
--- `vector::point3` meets its contract. Assumes nothing.
+-- `vector::coord3` meets its contract. Assumes nothing.
 use Rattle.vector.proofs.Rows.{row-of-three}
 use borrow.Author.Needs.{needs}
-use Rattle.vector.proofs.point3.Statement.{statement}
-use Rattle.vector.proofs.point3.Tie as tie
+use Rattle.vector.proofs.coord3.Statement.{statement}
+use Rattle.vector.proofs.coord3.Tie as tie
 
 mul-t3 : tie.Need-mul-t3
 mul-t3 c = search needs
@@ -40,8 +40,8 @@ shared-slice-read-t16 c = search needs
 returns : tie.Need-returns
 returns c = row-of-three (c .before .before .before .args .xs .now) (c .before .before .before .args .i) (c .before .before .before .pre)
 
-pub point3-spec : {M : Type 1} → statement M
-point3-spec =
+pub coord3-spec : {M : Type 1} → statement M
+coord3-spec =
     tie.close
     (tie.spec
     mul-t3
