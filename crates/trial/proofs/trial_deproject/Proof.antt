@@ -35,8 +35,8 @@ returns-3 c =
     it-fits
     (omega arith, omega arith) (
       refl,
-      deprojected-by-rows (@Start .args .rows .now) (@Start .args .out .now) _ _ _ _ (@coord3 .ensures) (@coord32 .ensures)
-          (@coord33 .ensures) (@deproject .ensures) (@put3 .ensures),
+      deprojected-by-rows (c .before .before .before .before .before .before .before .before .before .before .before .before .args .rows .now) (c .before .before .before .before .before .before .before .before .before .before .before .before .args .out .now) _ _ _ _ (c .before .before .before .before .before .before .before .coord3 .ensures) (c .before .before .before .before .before .before .coord32 .ensures)
+          (c .before .before .before .before .before .coord33 .ensures) (c .before .before .before .deproject .ensures) (c .before .before .put3 .ensures),
     )
 
 pub trial-deproject-spec : {M : Type 1} → statement M
