@@ -1,5 +1,6 @@
 -- `trial::trial_deproject` meets its contract. Assumes nothing.
 use mathlib.Core.Path.{refl}
+use mathlib.Core.List.{[], _∷_}
 use native.Mathlib.Omega.{arith}
 use Rattle.trial.proofs.Trial.{it-fits, it-does-not-fit, deprojected-by-rows}
 use borrow.Author.Needs.{needs}
@@ -35,7 +36,7 @@ returns-3 c =
     it-fits
     (omega arith, omega arith) (
       refl,
-      deprojected-by-rows (c .before .before .before .before .before .before .before .before .before .before .before .before .args .rows .now) (c .before .before .before .before .before .before .before .before .before .before .before .before .args .out .now) _ _ _ _ (c .before .before .before .before .before .before .before .coord3 .ensures) (c .before .before .before .before .before .before .coord32 .ensures)
+      deprojected-by-rows (c .before .before .before .before .before .before .before .before .before .before .before .before .args .rows .now) (c .before .before .before .before .before .before .before .before .before .before .before .before .args .out .now) _ _ _ (c .before .before .before .before .before .before .before .before .before .before .before .before .args .x ∷ c .before .before .before .before .before .before .before .before .before .before .before .before .args .y ∷ []) (c .before .before .before .before .before .before .before .coord3 .ensures) (c .before .before .before .before .before .before .coord32 .ensures)
           (c .before .before .before .before .before .coord33 .ensures) (c .before .before .before .deproject .ensures) (c .before .before .put3 .ensures),
     )
 
