@@ -8,4 +8,3 @@ pub mod Listing
 pub mod Section
 pub mod Carrying
 pub mod Faces
-pub mod Worked

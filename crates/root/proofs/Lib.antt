@@ -9,4 +9,3 @@ pub mod Values
 pub mod Nearer
 pub mod Ties
 pub mod Correct
-pub mod Worked

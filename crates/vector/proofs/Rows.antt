@@ -7,7 +7,7 @@ use native.Mathlib.Nat.{not-suc-le-zero, mul-suc, mul-zero, suc-add, zero-add, a
 use native.Mathlib.Numerals.{add-one}
 use native.Mathlib.Omega.{arith}
 use lib.Ieee.{Float, nan}
-use lib.ListN.{length, getD, set, take, drop, length-append}
+use lib.ListN.{length, getD, take, drop, length-append}
 use lib.Seq.{drop-cons, drop-drop, take-take, take-nil, take-at, drop-at, length-take-le, sets-eq, length-sets}
 use Rattle.vector.specs.Vector.{Vector}
 use Rattle.vector.specs.Rows.{row, rows, put, Seg, seg, noSeg, pairUp, segs, putSeg}
@@ -163,30 +163,16 @@ module _ (w n : ℕ) (xs : List Float) (a b : Vector) (la : length a ≡ w) (lb 
       ∙ drop-later (put w xs (2 * n) a) xs (w * suc (2 * n)) (w * suc (suc (2 * n))) (omega arith)
       (rest-put w (2 * n) xs a la roomA))
 
--- ---- the rows that the code reads and writes
--- the number at b, then the n after it
-next : (n b : ℕ) (xs : List Float) → b < length xs → getD xs b nan ∷ take n (drop (b + 1) xs) ≡ take (suc n) (drop b xs)
-next n b xs h = rw (add-one, drop-cons xs b nan)
+-- ---- rows that the code reads and writes number by number
 
-pub row-of-two : (xs : List Float) (i : ℕ) → 2 * i + 1 < length xs
-    → getD xs (2 * i) nan ∷ getD xs (2 * i + 1) nan ∷ [] ≡ row 2 xs i
-row-of-two xs i h = let b = 2 * i in ap (λ (l : Vector). getD xs b nan ∷ l) (next 0 (b + 1) xs h) ∙ next 1 b xs (omega arith)
+pub add-two : (n : ℕ) → n + 2 ≡ suc (suc n)
+add-two n = omega arith
 
-pub row-of-three : (xs : List Float) (i : ℕ) → 3 * i + 2 < length xs
-    → getD xs (3 * i) nan ∷ getD xs (3 * i + 1) nan ∷ getD xs (3 * i + 2) nan ∷ [] ≡ row 3 xs i
-row-of-three xs i h =
-    let e : 3 * i + 2 ≡ 3 * i + 1 + 1 = omega arith in
-    let b = 3 * i in
-    ap (λ (k : ℕ). getD xs b nan ∷ getD xs (b + 1) nan ∷ getD xs k nan ∷ []) e
-    ∙ ap (λ (l : Vector). getD xs b nan ∷ getD xs (b + 1) nan ∷ l) (next 0 (b + 1 + 1) xs (omega arith))
-    ∙ ap (λ (l : Vector). getD xs b nan ∷ l) (next 1 (b + 1) xs (omega arith))
-    ∙ next 2 b xs (omega arith)
+-- the w numbers from b on
+abbrev pub rowFrom : ℕ → ℕ → List Float → Vector
+rowFrom zero b xs = []
+rowFrom (suc w) b xs = getD xs b nan ∷ rowFrom w (suc b) xs
 
-pub put-two : (xs : List Float) (k : ℕ) (x y : Float) → set (set xs (2 * k) x) (2 * k + 1) y ≡ put 2 xs k (x ∷ y ∷ [])
-put-two xs k x y = rw add-one
-
-pub put-three : (xs : List Float) (k : ℕ) (x y z : Float)
-    → set (set (set xs (3 * k) x) (3 * k + 1) y) (3 * k + 2) z ≡ put 3 xs k (x ∷ y ∷ z ∷ [])
-put-three xs k x y z =
-    let e : 3 * k + 2 ≡ suc (suc (3 * k)) = omega arith in
-    rw (add-one, e)
+pub row-read : (w b : ℕ) (xs : List Float) → b + w ≤ length xs → rowFrom w b xs ≡ take w (drop b xs)
+row-read zero b xs h = refl
+row-read (suc w) b xs h = rw (drop-cons xs b nan (omega arith)) (ap (λ (l : Vector). getD xs b nan ∷ l) (row-read w (suc b) xs (omega arith)))

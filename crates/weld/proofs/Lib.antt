@@ -2,4 +2,3 @@ pub mod Edges
 pub mod Points
 pub mod Lists
 pub mod Welding
-pub mod Worked

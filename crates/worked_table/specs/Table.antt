@@ -2,7 +2,7 @@
 -- these answers is `worked`, in proofs/Table.antt.
 use mathlib.Core.Path.{_≡_}
 use mathlib.Core.List.{List, [], _∷_, flatten, map}
-use mathlib.Core.Bool.{true, false}
+use mathlib.Core.Bool.{true, false, cond}
 use Prim.Native.Nat.{ℕ, _/_}
 use lib.IntN.{pos, negsuc}
 use lib.ListN.{length}
@@ -19,8 +19,8 @@ use Rattle.cell.specs.Read.{areRows, cell, readAs}
 use Rattle.cell.specs.declared.types.Shape.the-variants.{Phed}
 use Rattle.clip.specs.Clip.{planeSectionSegments}
 use Rattle.weld.specs.Weld.{becomes, edgesFrom, listedEdges, pointsFrom, weldedPoints}
-use Rattle.walk.specs.Walk.{walks, walksFrom}
-use Rattle.stitch.specs.Stitch.{Answer, f2, signedArea, stitchedWithin}
+use Rattle.walk.specs.Walk.{Walk, walks, walksFrom}
+use Rattle.stitch.specs.Stitch.{Answer, area2From, f2, signedArea, stitchedWithin}
 use Rattle.stitch.specs.Entry.{stitchAlone}
 use Rattle.cuts.specs.Cuts.{through}
 use Rattle.plane_cut.specs.PlaneCut.{planeCut}
@@ -39,32 +39,42 @@ pub data Asked : Type 0 where
   -- a root
   root : Float → Asked
 
+-- a walk by its nodes, and its area where it is closed
+pub data Trace : Type 0 where
+  closed : List ℕ → Float → Trace
+  unclosed : List ℕ → Trace
+
 pub data Answered : Type 0 where
   positions : List Face → Answered
   -- a section, and the areas of its loops
   sectioned : Outcome Answer → List Float → Answered
-  -- a section, and the nodes of all walks
-  stitched : Outcome Answer → List (List ℕ) → Answered
+  -- a section, and all walks
+  stitched : Outcome Answer → List Trace → Answered
   number : Outcome Float → Answered
 
 abbrev pub areas : Outcome Answer → List Float
 areas (refused k) = []
 areas (found a) = map (signedArea (a .points)) (a .loops)
 
-abbrev pub walked : List Float → Float → List (List ℕ)
-walked xs tol =
+-- a walk over welded points
+abbrev pub trace : List Vector → Walk → Trace
+trace ps w = cond (w .closed) (closed (w .nodes) (signedArea ps (w .nodes))) (unclosed (w .nodes))
+
+abbrev pub traces : List Float → Float → List Trace
+traces xs tol =
     let t = mul binary64 tol tol in
     let ss = segs 2 (length xs / 4) xs in
-    map (λ w. w .nodes) (walks (weldedPoints t ss) (listedEdges t ss))
+    let ps = weldedPoints t ss in
+    map (trace ps) (walks ps (listedEdges t ss))
 
 -- by the definitions, in buffers of the sizes that docs/RULES.md gives for 24 face corners, or for the segments
 unfoldable pub answered : Asked → Answered
-unfolding flatten stretches kept spaceType readAs areRows leastAlignedAxis unit dotFrom tolerance planeSectionSegments mul stitchedWithin pointsFrom becomes edgesFrom walksFrom
+unfolding flatten stretches kept spaceType readAs areRows leastAlignedAxis unit dotFrom tolerance planeSectionSegments mul stitchedWithin pointsFrom becomes edgesFrom walksFrom area2From
 answered (faces c) = positions (facesOf Phed c)
 answered (plane t c xs o n) = let r = planeCut (cell t c xs) (through o n) f0 (record { numbers = 144; nodes = 36; ends = 12 }) in sectioned r (areas r)
 answered (stitch xs tol) =
     let s = length xs / 4 in
-    stitched (stitchAlone xs tol (record { numbers = length xs; nodes = s; ends = s / 3 })) (walked xs tol)
+    stitched (stitchAlone xs tol (record { numbers = length xs; nodes = s; ends = s / 3 })) (traces xs tol)
 answered (toleranceIn xs) = number (toleranceOf 3 xs)
 answered (root x) = number (found (sqrtOf binary64 x))
 
@@ -144,20 +154,20 @@ table =
     ∷ case (stitch [] f0) (stitched (answer [] [] 0 0 0 0) [])
     -- 6
     ∷ case (stitch (along triangle) f0)
-    (stitched (answer (O ∷ pt f0 f1 ∷ pt f1 f0 ∷ []) ((2 ∷ 1 ∷ 0 ∷ []) ∷ []) 3 3 0 0) ((0 ∷ 1 ∷ 2 ∷ []) ∷ []))
+    (stitched (answer (O ∷ pt f0 f1 ∷ pt f1 f0 ∷ []) ((2 ∷ 1 ∷ 0 ∷ []) ∷ []) 3 3 0 0) (closed (0 ∷ 1 ∷ 2 ∷ []) (fin true 1 (negsuc 0)) ∷ []))
     -- 7
     ∷ case (stitch (along (O ∷ pt f0 f1 ∷ pt f1 f0 ∷ [])) f0)
-    (stitched (answer (O ∷ pt f0 f1 ∷ pt f1 f0 ∷ []) [] 2 0 0 2) ((0 ∷ 1 ∷ 2 ∷ []) ∷ []))
+    (stitched (answer (O ∷ pt f0 f1 ∷ pt f1 f0 ∷ []) [] 2 0 0 2) (unclosed (0 ∷ 1 ∷ 2 ∷ []) ∷ []))
     -- 8
     ∷ case (stitch (along triangle) nan)
-    (stitched (answer (O ∷ pt f0 f1 ∷ pt f0 f1 ∷ pt f1 f0 ∷ pt f1 f0 ∷ O ∷ []) [] 3 0 0 3) ((0 ∷ 1 ∷ []) ∷ (2 ∷ 3 ∷ []) ∷ (4 ∷ 5 ∷ []) ∷ []))
+    (stitched (answer (O ∷ pt f0 f1 ∷ pt f0 f1 ∷ pt f1 f0 ∷ pt f1 f0 ∷ O ∷ []) [] 3 0 0 3) (unclosed (0 ∷ 1 ∷ []) ∷ unclosed (2 ∷ 3 ∷ []) ∷ unclosed (4 ∷ 5 ∷ []) ∷ []))
     -- 9
     ∷ case (stitch (along (O ∷ pt f1 f0 ∷ pt f2 f0 ∷ O ∷ [])) f0)
-    (stitched (answer (O ∷ pt f1 f0 ∷ pt f2 f0 ∷ []) [] 3 0 3 0) ((0 ∷ 1 ∷ 2 ∷ []) ∷ []))
+    (stitched (answer (O ∷ pt f1 f0 ∷ pt f2 f0 ∷ []) [] 3 0 3 0) (closed (0 ∷ 1 ∷ 2 ∷ []) f0 ∷ []))
     -- 10
     ∷ case (stitch (along bowTie) f0)
     (stitched (answer (pt minusTwo f1 ∷ O ∷ pt f2 f1 ∷ pt f2 minusOne ∷ pt minusTwo minusOne ∷ []) [] 6 0 6 0)
-    ((0 ∷ 1 ∷ 3 ∷ 2 ∷ 1 ∷ 4 ∷ []) ∷ []))
+    (closed (0 ∷ 1 ∷ 3 ∷ 2 ∷ 1 ∷ 4 ∷ []) f0 ∷ []))
     -- 11
     ∷ case (toleranceIn (fin false 3 (pos 0) ∷ fin false 1 (pos 2) ∷ f0 ∷ [])) (number (found (fin false 1 (negsuc 43))))
     -- 12

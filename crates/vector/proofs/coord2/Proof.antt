@@ -1,5 +1,8 @@
 -- `vector::coord2` meets its contract. Assumes nothing.
-use Rattle.vector.proofs.Rows.{row-of-two}
+use Prim.Native.Nat.{_*_}
+use native.Mathlib.Numerals.{add-one}
+use native.Mathlib.Omega.{arith}
+use Rattle.vector.proofs.Rows.{row-read}
 use borrow.Author.Needs.{needs}
 use Rattle.vector.proofs.coord2.Statement.{statement}
 use Rattle.vector.proofs.coord2.Tie as tie
@@ -26,7 +29,9 @@ shared-slice-read-t11 : tie.Need-shared-slice-read-t11
 shared-slice-read-t11 c = search needs
 
 returns : tie.Need-returns
-returns c = row-of-two (c .before .before .args .xs .now) (c .before .before .args .i) (c .before .before .pre)
+returns c =
+    let g = c .before .before .args in
+    rw add-one (row-read 2 (2 * g .i) (g .xs .now) (omega (arith, c .before .before .pre)))
 
 pub coord2-spec : {M : Type 1} → statement M
 coord2-spec =

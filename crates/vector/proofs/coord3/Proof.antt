@@ -1,5 +1,8 @@
 -- `vector::coord3` meets its contract. Assumes nothing.
-use Rattle.vector.proofs.Rows.{row-of-three}
+use Prim.Native.Nat.{_*_}
+use native.Mathlib.Numerals.{add-one}
+use native.Mathlib.Omega.{arith}
+use Rattle.vector.proofs.Rows.{add-two, row-read}
 use borrow.Author.Needs.{needs}
 use Rattle.vector.proofs.coord3.Statement.{statement}
 use Rattle.vector.proofs.coord3.Tie as tie
@@ -38,7 +41,9 @@ shared-slice-read-t16 : tie.Need-shared-slice-read-t16
 shared-slice-read-t16 c = search needs
 
 returns : tie.Need-returns
-returns c = row-of-three (c .before .before .before .args .xs .now) (c .before .before .before .args .i) (c .before .before .before .pre)
+returns c =
+    let g = c .before .before .before .args in
+    rw (add-one, add-two) (row-read 3 (3 * g .i) (g .xs .now) (omega (arith, c .before .before .before .pre)))
 
 pub coord3-spec : {M : Type 1} → statement M
 coord3-spec =

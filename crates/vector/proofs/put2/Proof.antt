@@ -1,5 +1,5 @@
 -- `vector::put2` meets its contract. Assumes nothing.
-use Rattle.vector.proofs.Rows.{put-two}
+use native.Mathlib.Numerals.{add-one}
 use borrow.Author.Needs.{needs}
 use Rattle.vector.proofs.put2.Statement.{statement}
 use Rattle.vector.proofs.put2.Tie as tie
@@ -29,7 +29,7 @@ same-length : tie.Need-same-length
 same-length c = search needs
 
 returns : tie.Need-returns
-returns c = put-two (c .args .xs .now) (c .args .i) (c .args .p .x) (c .args .p .y)
+returns c = rw add-one
 
 pub put2-spec : {M : Type 1} → statement M
 put2-spec =

@@ -1,7 +1,8 @@
 -- `vector::put3` meets its contract. Assumes nothing.
+use native.Mathlib.Numerals.{add-one}
 use native.Mathlib.Omega.{arith}
 use lib.ListN.{length-set}
-use Rattle.vector.proofs.Rows.{put-three}
+use Rattle.vector.proofs.Rows.{add-two}
 use borrow.Author.Needs.{needs}
 use Rattle.vector.proofs.put3.Statement.{statement}
 use Rattle.vector.proofs.put3.Tie as tie
@@ -43,7 +44,7 @@ same-length : tie.Need-same-length
 same-length c = search needs
 
 returns : tie.Need-returns
-returns c = put-three (c .args .xs .now) (c .args .i) (c .args .p .x) (c .args .p .y) (c .args .p .z)
+returns c = rw (add-one, add-two)
 
 pub put3-spec : {M : Type 1} → statement M
 put3-spec =
