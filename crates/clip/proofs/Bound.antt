@@ -11,7 +11,7 @@ use Rattle.vector.specs.Number.{f1, minusOne}
 use Rattle.vector.specs.Vector.{Vector, Frame, dist2}
 use Rattle.vector.specs.Rows.{Seg, seg}
 use Rattle.clip.specs.declared.Side.{Side}
-use Rattle.clip.specs.declared.Side.the-variants.{Above, Below, Neither}
+use Rattle.clip.specs.declared.Side.the-variants.{Kept, Neither}
 use Rattle.clip.specs.Clip.{Cut, bySide, clipSide, clipSides, clipped, duplicate, edges, edgesTo, inside, keptSide, liesOn, outcome}
 use Rattle.clip.specs.Clip.{planeIntersection, planeSectionSegments, pushAll, pushSegment, pushSegments, pushUnique, sectionOn}
 use Rattle.clip.specs.Clip.{segments, signed, tolSquared, unique, withoutClosing}
@@ -124,8 +124,7 @@ on-bound c s ps =
     omega (arith, segments-bound c (withoutClosing (tolSquared c) k), closing-bound (tolSquared c) k, clipped-bound c s ps)
 
 side-kept : (c : Cut) (ps : List Vector) (g : Side) → length (bySide c ps g) ≤ atMost (length ps)
-side-kept c ps Above = on-bound c f1 ps
-side-kept c ps Below = on-bound c minusOne ps
+side-kept c ps (Kept s) = on-bound c s ps
 side-kept c ps Neither = omega arith
 
 pub section-bound : (c : Cut) (ps : List Vector) → length (planeSectionSegments c ps) ≤ atMost (length ps)

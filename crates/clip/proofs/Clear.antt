@@ -11,7 +11,7 @@ use Rattle.vector.specs.Number.{f1, minusOne, abs}
 use Rattle.vector.specs.Vector.{Vector, dist2}
 use Rattle.vector.specs.Rows.{Seg, seg}
 use Rattle.clip.specs.declared.Side.{Side}
-use Rattle.clip.specs.declared.Side.the-variants.{Above, Below}
+use Rattle.clip.specs.declared.Side.the-variants.{Kept}
 use Rattle.clip.specs.Clip.{Cut, anyAbove, anyBelow, away, bySide, clipSides, clipped, edges, edgesTo, keptSide}
 use Rattle.clip.specs.Clip.{planeSectionSegments, pushAll, pushSegment, pushSegments, pushUnique, segments}
 use Rattle.clip.specs.Clip.{tolSquared, unique, withoutClosing}
@@ -111,7 +111,7 @@ clear-above : (c : Cut) (ps : List Vector) → Each (ClearAbove c) ps → planeS
 unfolding planeSectionSegments anyAbove
 clear-above c [] h = refl
 clear-above c (p ∷ ps) h =
-    clear-by c (p ∷ ps) {g = Above} (rw (h .0 .higher))
+    clear-by c (p ∷ ps) {g = Kept f1} (rw (h .0 .higher))
     (clear-side c f1 (p ∷ ps)
     (each-map (λ q k. record { off = above-off (c .tol) (away c q) (k .higher); within = k .within }) (p ∷ ps) h))
 
@@ -124,7 +124,7 @@ clear-below : (c : Cut) (ps : List Vector) → Each (ClearBelow c) ps → planeS
 unfolding planeSectionSegments anyBelow
 clear-below c [] h = refl
 clear-below c (p ∷ ps) h =
-    clear-by c (p ∷ ps) {g = Below} (rw (none-above c (p ∷ ps) h, h .0 .lower))
+    clear-by c (p ∷ ps) {g = Kept minusOne} (rw (none-above c (p ∷ ps) h, h .0 .lower))
     (clear-side c minusOne (p ∷ ps)
     (each-map (λ q k. record { off = below-off (c .tol) (away c q) (k .lower); within = k .within }) (p ∷ ps) h))
 

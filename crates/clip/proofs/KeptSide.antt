@@ -12,12 +12,12 @@ use lib.Dec.{eqb, ltb}
 use lib.Ieee.{Float, nan, lt, le, neg}
 use lib.ListN.{length, getD, drop, set, drop-of-length-le, length-set}
 use lib.Seq.{drop-cons, getD-set-other, getD-set-same}
-use Rattle.vector.specs.Number.{f0}
+use Rattle.vector.specs.Number.{f0, f1, minusOne}
 use Rattle.vector.specs.Vector.{Vector}
 use Rattle.vector.specs.Rows.{row, rows}
 use Rattle.vector.proofs.Rows.{rows-getD, rows-length}
 use Rattle.clip.specs.declared.Side.{Side}
-use Rattle.clip.specs.declared.Side.the-variants.{Above, Below, Neither}
+use Rattle.clip.specs.declared.Side.the-variants.{Kept, Neither}
 use Rattle.clip.specs.Clip.{Cut, anyAbove, anyBelow, away, keptSide}
 use Rattle.clip.specs.Clear.{Each}
 use Rattle.clip.specs.Code.{PassedOver, Sided, sideOf}
@@ -66,7 +66,7 @@ any-below c [] = refl
 any-below c (p ∷ ps) = ap (λ (b : Bool). lower c p || b) (any-below c ps) ∙ tally-some (lower c p) (tally (lower c) ps)
 
 -- ---- the side by the tallies
-by-tally : (c : Cut) (ps : List Vector) → cond (ltb 0 (tally (higher c) ps)) Above (cond (ltb 0 (tally (lower c) ps)) Below Neither) ≡ keptSide c ps
+by-tally : (c : Cut) (ps : List Vector) → cond (ltb 0 (tally (higher c) ps)) (Kept f1) (cond (ltb 0 (tally (lower c) ps)) (Kept minusOne) Neither) ≡ keptSide c ps
 by-tally c ps = rw (any-above c ps, any-below c ps)
 
 side-by-tally : (c : Cut) (ps : List Vector)
@@ -76,7 +76,7 @@ side-by-tally c ps =
     byTest (le f0 (c .tol)) (eqb (tally (higher c) ps) (length ps)) (eqb (tally (lower c) ps) (length ps)) refl refl refl
   where
     byTest : (x y z : Bool) → le f0 (c .tol) ≡ x → eqb (tally (higher c) ps) (length ps) ≡ y → eqb (tally (lower c) ps) (length ps) ≡ z
-        → let g = cond (x && (y || z)) Neither (cond (ltb 0 (tally (higher c) ps)) Above (cond (ltb 0 (tally (lower c) ps)) Below Neither)) in
+        → let g = cond (x && (y || z)) Neither (cond (ltb 0 (tally (higher c) ps)) (Kept f1) (cond (ltb 0 (tally (lower c) ps)) (Kept minusOne) Neither)) in
         (g ≡ keptSide c ps) ⊎ ((g ≡ Neither) × PassedOver c ps)
     byTest true true z ex ey ez =
         inr (refl, record { not-negative = ex; beyond = inl (tally-each (higher c) ps (eqb-true (tally (higher c) ps) (length ps) ey)) })

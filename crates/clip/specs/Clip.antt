@@ -10,7 +10,7 @@ use Rattle.vector.specs.Number.{f1, minusOne, half, least, abs}
 use Rattle.vector.specs.Vector.{Vector, diff, dist2, distance, dotFrom, plus, scale}
 use Rattle.vector.specs.Rows.{Seg, seg}
 use Rattle.clip.specs.declared.Side.{Side}
-use Rattle.clip.specs.declared.Side.the-variants.{Above, Below, Neither}
+use Rattle.clip.specs.declared.Side.the-variants.{Kept, Neither}
 
 -- the plane or line that cuts, by a point of it and its unit normal, and the tolerance of the tests
 pub record Cut : Type 0 where
@@ -40,9 +40,9 @@ unfolding lt neg dotFrom sub
 anyBelow c [] = false
 anyBelow c (p ∷ ps) = lt (away c p) (neg (c .tol)) || anyBelow c ps
 
--- above if some corner is, else below if some corner is; neither: no section
+-- above, with the sign 1, if some corner is, else below, with the sign -1, if some corner is; neither: no section
 abbrev pub keptSide : Cut → List Vector → Side
-keptSide c ps = cond (anyAbove c ps) Above (cond (anyBelow c ps) Below Neither)
+keptSide c ps = cond (anyAbove c ps) (Kept f1) (cond (anyBelow c ps) (Kept minusOne) Neither)
 
 -- the distance times the sign, 1 or -1, so that the kept side is above
 abbrev pub signed : Cut → Float → Vector → Float
@@ -166,10 +166,9 @@ segments c k = cond (ltb (length k) 2) [] (pushSegments c (tolSquared c) [] (edg
 abbrev pub sectionOn : Cut → Float → List Vector → List Seg
 sectionOn c s ps = segments c (withoutClosing (tolSquared c) (clipped c s ps))
 
--- the sign is 1 above, -1 below
+-- on the side that is kept
 abbrev pub bySide : Cut → List Vector → Side → List Seg
-bySide c ps Above = sectionOn c f1 ps
-bySide c ps Below = sectionOn c minusOne ps
+bySide c ps (Kept s) = sectionOn c s ps
 bySide c ps Neither = []
 
 -- the section of a polygon: under three corners, none

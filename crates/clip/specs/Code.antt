@@ -7,13 +7,13 @@ use Prim.Native.Nat.{ℕ, _+_, _-_, _*_, _≤_, _<_}
 use lib.Dec.{eqb, ltb}
 use lib.Ieee.{Float, nan, le}
 use lib.ListN.{length, getD, drop}
-use Rattle.vector.specs.Number.{f0}
+use Rattle.vector.specs.Number.{f0, f1, minusOne}
 use Rattle.vector.specs.Vector.{Vector, Frame}
 use Rattle.vector.specs.Rows.{Seg, row, rows, segs}
 use Rattle.clip.specs.declared.Clipped.{Clipped}
 use Rattle.clip.specs.declared.Found.{Found}
 use Rattle.clip.specs.declared.Side.{Side}
-use Rattle.clip.specs.declared.Side.the-variants.{Above, Below, Neither}
+use Rattle.clip.specs.declared.Side.the-variants.{Kept, Neither}
 use Rattle.clip.specs.Clip.{Cut, away, clipEdge, clipSides, edges, keptSide, planeIntersection, planeSectionSegments, pushAll, sectionOn}
 use Rattle.clip.specs.Cell.{atMost, cellSegments}
 use Rattle.clip.specs.Clear.{Each, Higher, Lower}
@@ -75,7 +75,7 @@ pub record Sided (c : Cut) (w n : ℕ) (ps : List Float) (g : Side) (xs : List F
 -- the side to clip to, if so many of n corners are above tol and below -tol: neither, if all are and tol is not negative
 abbrev pub sideOf : ℕ → ℕ → ℕ → Float → Side
 sideOf above below n tol =
-    cond (le f0 tol && (eqb above n || eqb below n)) Neither (cond (ltb 0 above) Above (cond (ltb 0 below) Below Neither))
+    cond (le f0 tol && (eqb above n || eqb below n)) Neither (cond (ltb 0 above) (Kept f1) (cond (ltb 0 below) (Kept minusOne) Neither))
 
 -- The faces whose ends are running totals from s on: no end is below the one before it, or above m, and each face has room for
 -- its clipped points in p numbers and for its segments in space in q numbers.

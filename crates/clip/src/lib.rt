@@ -21,11 +21,10 @@ pub struct Clipped {
     pub points: usize,
 }
 
-// The side of the cut that a polygon is clipped to; neither, if no corner is above tol or below -tol, or if all are on
-// one side.
+// The side of the cut that a polygon is clipped to, by the sign that makes its distances positive: 1 above, -1 below.
+// Neither, if no corner is above tol or below -tol, or if all are on one side.
 pub enum Side {
-    Above,
-    Below,
+    Kept(f64),
     Neither,
 }
 
@@ -73,10 +72,10 @@ pub fn side_of(above: usize, below: usize, n: usize, tol: f64) -> Side
         return Side::Neither;
     }
     if above > 0 {
-        return Side::Above;
+        return Side::Kept(1.0);
     }
     if below > 0 {
-        return Side::Below;
+        return Side::Kept(-1.0);
     }
     Side::Neither
 }

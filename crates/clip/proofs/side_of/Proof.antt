@@ -1,4 +1,6 @@
 -- `clip::side_of` meets its contract. Assumes nothing.
+use mathlib.Core.Path.{refl}
+use lib.Ieee.{neg, ofBits}
 use borrow.Author.Needs.{needs}
 use borrow.Author.Tests.{le-ltb, lt-ltb}
 use Rattle.clip.proofs.side_of.Statement.{statement}
@@ -11,12 +13,14 @@ returns : tie.Need-returns
 returns c = rw (← c .before .is-clear .ensures, c .if1 .taken)
 
 returns-2 : tie.Need-returns-2
-returns-2 c = rw (← c .before .before .is-clear .ensures, c .before .if1 .left, lt-ltb 0 (c .before .before .before .args .above) (c .if2 .taken))
+unfolding ofBits
+returns-2 c = rw (← c .before .before .is-clear .ensures, c .before .if1 .left, lt-ltb 0 (c .before .before .before .args .above) (c .if2 .taken)) refl
 
 returns-3 : tie.Need-returns-3
+unfolding ofBits neg
 returns-3 c =
     let g = c .before .before .before .before .args in
-    rw (← c .before .before .before .is-clear .ensures, c .before .before .if1 .left, le-ltb 0 (g .above) (c .before .if2 .left), lt-ltb 0 (g .below) (c .if3 .taken))
+    rw (← c .before .before .before .is-clear .ensures, c .before .before .if1 .left, le-ltb 0 (g .above) (c .before .if2 .left), lt-ltb 0 (g .below) (c .if3 .taken)) refl
 
 returns-4 : tie.Need-returns-4
 returns-4 c =

@@ -1,6 +1,5 @@
 -- `clip_space::polygon::plane_section_segments` meets its contract. Assumes nothing.
 use mathlib.Core.Path.{refl}
-use lib.Ieee.{neg, ofBits}
 use Rattle.clip.proofs.Section.{few-corners, no-segments, on-side}
 use Rattle.clip_space.specs.View.{cut3}
 use borrow.Author.Needs.{needs}
@@ -15,52 +14,33 @@ returns c =
 kept-side-requires : tie.Need-kept-side-requires
 kept-side-requires c κs = search needs
 
+enum-known-sign : tie.Need-enum-known-sign
+enum-known-sign c = search needs
+
 enum-told : tie.Need-enum-told
 enum-told c = search needs
-
-section-on-requires : tie.Need-section-on-requires
-section-on-requires c κs = search needs
-
-enum-told-2 : tie.Need-enum-told-2
-enum-told-2 c = search needs
-
-section-on-requires-2 : tie.Need-section-on-requires-2
-section-on-requires-2 c κs = search needs
-
-enum-told-3 : tie.Need-enum-told-3
-enum-told-3 c = search needs
 
 same-length : tie.Need-same-length
 same-length c = search needs
 
+returns-2 : tie.Need-returns-2
+returns-2 c =
+    let g = c .before .before .before .before .before .before .before .before .before .before .args in
+    record { segments = on-side 3 (cut3 (g .cut)) (g .n) (g .polygon .now) (c .before .before .before .before .before .before .if1 .left) (rw (c .enum-told .given .1) at (c .before .before .before .before .kept-side .ensures)) (no-segments 3 (g .out .now) refl) }
+
+section-on-requires : tie.Need-section-on-requires
+section-on-requires c κs = search needs
+
 same-length-2 : tie.Need-same-length-2
 same-length-2 c = search needs
-
-returns-2 : tie.Need-returns-2
-unfolding ofBits
-returns-2 c =
-    let g = c .before .before .before .before .before .before .before .before .before .before .before .before .before .before .before .before .before .args in
-    record { segments = on-side 3 (cut3 (g .cut)) (g .n) (g .polygon .now) (c .before .before .before .before .before .before .before .before .before .before .before .before .before .if1 .left) (rw (c .before .before .before .before .before .before .before .enum-told .given .1) at (c .before .before .before .before .before .before .before .before .before .before .before .kept-side .ensures)) (c .before .before .before .before .section-on .ensures .segments) }
 
 same-length-3 : tie.Need-same-length-3
 same-length-3 c = search needs
 
-same-length-4 : tie.Need-same-length-4
-same-length-4 c = search needs
-
 returns-3 : tie.Need-returns-3
-unfolding ofBits neg
 returns-3 c =
-    let g = c .before .before .before .before .before .before .before .before .before .before .before .before .before .before .before .before .before .args in
-    record { segments = on-side 3 (cut3 (g .cut)) (g .n) (g .polygon .now) (c .before .before .before .before .before .before .before .before .before .before .before .before .before .if1 .left) (rw (c .before .before .before .before .before .before .before .enum-told2 .given .1) at (c .before .before .before .before .before .before .before .before .before .before .before .kept-side .ensures)) (c .before .before .before .before .section-on2 .ensures .segments) }
-
-same-length-5 : tie.Need-same-length-5
-same-length-5 c = search needs
-
-returns-4 : tie.Need-returns-4
-returns-4 c =
-    let g = c .before .before .before .before .before .before .before .before .before .before .args in
-    record { segments = on-side 3 (cut3 (g .cut)) (g .n) (g .polygon .now) (c .before .before .before .before .before .before .if1 .left) (rw (c .enum-told3 .given .1) at (c .before .before .before .before .kept-side .ensures)) (no-segments 3 (g .out .now) refl) }
+    let g = c .before .before .before .before .before .before .before .before .before .before .before .before .before .before .before .before .before .before .args in
+    record { segments = on-side 3 (cut3 (g .cut)) (g .n) (g .polygon .now) (c .before .before .before .before .before .before .before .before .before .before .before .before .before .before .if1 .left) (rw (c .before .before .before .before .before .before .before .before .sign .given .1) at (c .before .before .before .before .before .before .before .before .before .before .before .before .kept-side .ensures)) (c .before .before .before .before .section-on .ensures .segments) }
 
 pub plane-section-segments-spec : {M : Type 1} → statement M
 plane-section-segments-spec =
@@ -68,16 +48,11 @@ plane-section-segments-spec =
     (tie.spec
     returns
     kept-side-requires
+    enum-known-sign
     enum-told
-    section-on-requires
-    enum-told-2
-    section-on-requires-2
-    enum-told-3
     same-length
-    same-length-2
     returns-2
+    section-on-requires
+    same-length-2
     same-length-3
-    same-length-4
-    returns-3
-    same-length-5
-    returns-4)
+    returns-3)
