@@ -65,9 +65,9 @@ fn weld_segment(
         smaller,
         larger,
         welded.edges,
+        welded.points,
         a.place,
         b.place,
-        welded.points,
     );
     Welded {
         points: b.points,
@@ -117,7 +117,7 @@ fn find(points: &[f64], n: usize, p: Vec2, tol2: f64) -> usize
 
 // Adds the edge between points a and b to the m edges, which are between the first n points, unless a and b are one
 // point or it is listed already.
-fn add_edge(smaller: &mut [u32], larger: &mut [u32], m: usize, a: u32, b: u32, n: usize) -> usize
+fn add_edge(smaller: &mut [u32], larger: &mut [u32], m: usize, n: usize, a: u32, b: u32) -> usize
     requires { ⌜ (m < length (now smaller)) × (length (now smaller) ≡ length (now larger))
         × Within (take m (edgesOf (now smaller) (now larger))) n ⌝ }
     ensures { λ r. ⌜ Added a b m (now (smaller .entry)) (now (larger .entry)) r (now (smaller .exit))
@@ -127,7 +127,7 @@ fn add_edge(smaller: &mut [u32], larger: &mut [u32], m: usize, a: u32, b: u32, n
         return m;
     }
     let e = Edge::between(a, b);
-    if known(smaller, larger, m, e, n) {
+    if known(smaller, larger, m, n, e) {
         return m;
     }
     smaller[m] = e.smaller;
@@ -137,7 +137,7 @@ fn add_edge(smaller: &mut [u32], larger: &mut [u32], m: usize, a: u32, b: u32, n
 
 // Whether e is one of the m edges, which are between the first n points. With a newer point e is none of them, and
 // they are not looked through.
-fn known(smaller: &[u32], larger: &[u32], m: usize, e: Edge, n: usize) -> bool
+fn known(smaller: &[u32], larger: &[u32], m: usize, n: usize, e: Edge) -> bool
     requires { ⌜ (m ≤ length (now smaller)) × (length (now smaller) ≡ length (now larger))
         × Within (take m (edgesOf (now smaller) (now larger))) n ⌝ }
     ensures { λ r. ⌜ r ≡ listed (edge (e .smaller) (e .larger))
