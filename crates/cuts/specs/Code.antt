@@ -8,7 +8,7 @@ use Rattle.vector.specs.View.{frameOf}
 use Rattle.vector.specs.Vector.{Frame}
 use Rattle.cell.specs.Read.{Polygon, Cell, spaceCell, polygonsOf, cornersOf, Accepted}
 use Rattle.walk.specs.Walk.{All}
-use Rattle.stitch.specs.Code.{Answered}
+use Rattle.stitch.specs.Code.{AnswerGiven}
 use Rattle.stitch.specs.Entry.{Buffers}
 use Rattle.stitch.specs.declared.alone.Sectioned.{Sectioned}
 use Rattle.cuts.specs.Cuts.{sectionOf}
@@ -41,7 +41,7 @@ pub record CanSection (k : Cell) (numbers : List Float) (nodes ends : List ℕ) 
 -- the section of polygons by a plane is given
 pub record SectionGiven (f : Frame) (tol : Float) (ps : List Polygon) (r : Sectioned) (b b′ : Buffers) : Type 0 where
   pub stitched
-      : Answered (sectionOf f tol ps) (r .stitched) (b .numbers) (b′ .numbers) (b .nodes) (b′ .nodes) (b .ends) (b′ .ends)
+      : AnswerGiven (sectionOf f tol ps) (r .stitched) (b .numbers) (b′ .numbers) (b .nodes) (b′ .nodes) (b .ends) (b′ .ends)
 
 -- ---- the tiers of scratch
 

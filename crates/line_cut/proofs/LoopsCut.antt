@@ -17,7 +17,7 @@ use Rattle.clip.proofs.Bound.{section-bound}
 use Rattle.walk.specs.Walk.{pointAt}
 use Rattle.stitch.specs.Code.{cut}
 use Rattle.line_cut.specs.LineCut.{axis, loopSegments, loopsSegments, segmentOnLine}
-use Rattle.line_cut.specs.Code.{Loop, Loops, Rising, onLineOf}
+use Rattle.line_cut.specs.Code.{CanCutLoop, CanCutLoops, Rising, onLineOf}
 
 rising-most : (s : ℕ) (es : List ℕ) (m : ℕ) → Rising s es m → s ≤ m
 rising-most s [] m h = h
@@ -82,9 +82,9 @@ module _ {f : Frame} {tol : Float} {ps : List Vector} {nodes ends : List ℕ} {x
 
     -- the loop has the room that all loops have
     pub loop-ready : {p : ℕ} {points polygon clipped flat polygon′ clipped′ flat′ : List Float}
-        → Loops p points nodes ends polygon clipped flat xs → (e : ℕ) → e ≡ getD ends i 0
+        → CanCutLoops p points nodes ends polygon clipped flat xs → (e : ℕ) → e ≡ getD ends i 0
         → length polygon′ ≡ length polygon → length clipped′ ≡ length clipped → length flat′ ≡ length flat
-        → Loop p points (loop e) polygon′ clipped′ flat′ × (6 * (k + atMost (length (loop e))) ≤ length zs)
+        → CanCutLoop p points (loop e) polygon′ clipped′ flat′ × (6 * (k + atMost (length (loop e))) ≤ length zs)
     loop-ready {p} y e q lp lc lf =
         let l : length (loop e) ≡ e - s = rw q loop-length in
         let low : s ≤ e = omega (arith, loop-from) in

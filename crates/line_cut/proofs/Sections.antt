@@ -18,7 +18,7 @@ use Rattle.clip.proofs.Bound.{cell-bound}
 use Rattle.clip.specs.Code.{Segments}
 use Rattle.walk.specs.Walk.{All}
 use Rattle.walk.specs.Code.{Below}
-use Rattle.stitch.specs.Code.{Answered, cut}
+use Rattle.stitch.specs.Code.{AnswerGiven, cut}
 use Rattle.stitch.specs.Stitch.{Answer, ruleOf, stitched}
 use Rattle.stitch.specs.declared.Stitched.{Stitched}
 use Rattle.stitch.proofs.Claim.{claim}
@@ -26,7 +26,7 @@ use Rattle.stitch.proofs.Welded.{cut-ends}
 use Rattle.cuts.specs.Cuts.{sectionOf, segmentsOn}
 use Rattle.cuts.proofs.Sizes.{corners-in-all}
 use Rattle.line_cut.specs.LineCut.{lineOfSection, loopSegments, loopsSegments, segmentOnLine}
-use Rattle.line_cut.specs.Code.{Loops, Rising, onLineOf}
+use Rattle.line_cut.specs.Code.{CanCutLoops, Rising, onLineOf}
 use Rattle.line_cut.specs.LineCut.{LineBounded}
 use Rattle.line_cut.proofs.LoopsCut.{loop-bound}
 
@@ -67,7 +67,7 @@ nodes-below tol ss =
 -- ---- what was written, as its reader takes it
 
 module _ {a : Answer} {r : Stitched} {numbers numbers′ : List Float} {nodes nodes′ ends ends′ : List ℕ}
-    (g : Answered a r numbers numbers′ nodes nodes′ ends ends′) where
+    (g : AnswerGiven a r numbers numbers′ nodes nodes′ ends ends′) where
   pub nodes-taken : take (r .nodes) nodes′ ≡ flatten (a .loops)
   nodes-taken = ap (take (r .nodes)) (g .nodes-are) ∙ take-at (flatten (a .loops)) (drop (length (flatten (a .loops))) nodes) (r .nodes)
       (sym (g .node-count))
@@ -145,8 +145,8 @@ pub record Scratch (m : ℕ) (points polygon clipped flat : List Float) : Type 0
 pub loops-ready : (f : Frame) (tol : Float) (m : ℕ) (ps : List Polygon) {points : List Float} {nodes ends : List ℕ} {r : Stitched}
     {points′ polygon clipped flat numbers : List Float} {nodes′ ends′ : List ℕ}
     → length (flatten ps) ≤ m → Scratch m points′ polygon clipped flat → 14 * length (flatten ps) ≤ length numbers
-    → Answered (sectionOf f tol ps) r points points′ nodes nodes′ ends ends′
-    → Loops (r .points) points′ (take (r .nodes) nodes′) (take (r .loops) ends′) polygon clipped flat numbers
+    → AnswerGiven (sectionOf f tol ps) r points points′ nodes nodes′ ends ends′
+    → CanCutLoops (r .points) points′ (take (r .nodes) nodes′) (take (r .loops) ends′) polygon clipped flat numbers
 loops-ready f tol m ps {r = r} {nodes′ = nodes′} {ends′ = ends′} l h room g =
     let ss = segmentsOn f tol ps in
     let a = stitched tol ss in

@@ -32,7 +32,7 @@ abbrev pub onLineOf : Frame → Float → List Vector → List ℕ → List ℕ 
 onLineOf f tol ps ends nodes = map (segmentOnLine f) (loopsSegments tol ps (cut 0 ends nodes))
 
 -- nodes among p points, with room for a polygon of them, its clipped points and its segments
-pub record Loop (p : ℕ) (points : List Float) (nodes : List ℕ) (polygon clipped flat : List Float) : Type 0 where
+pub record CanCutLoop (p : ℕ) (points : List Float) (nodes : List ℕ) (polygon clipped flat : List Float) : Type 0 where
   pub points-room : 2 * p ≤ length points
   pub below : Below p nodes
   pub few : length nodes ≤ 384
@@ -46,7 +46,7 @@ Rising s [] m = s ≤ m
 Rising s (e ∷ es) m = (s ≤ e) × Rising e es m
 
 -- the nodes of loops that end at running totals, with room for all that is worked out of them
-pub record Loops (p : ℕ) (points : List Float) (nodes ends : List ℕ) (polygon clipped flat numbers : List Float) : Type 0 where
-  pub each : Loop p points nodes polygon clipped flat
+pub record CanCutLoops (p : ℕ) (points : List Float) (nodes ends : List ℕ) (polygon clipped flat numbers : List Float) : Type 0 where
+  pub each : CanCutLoop p points nodes polygon clipped flat
   pub rising : Rising 0 ends (length nodes)
   pub for-numbers : 6 * atMost (length nodes) ≤ length numbers

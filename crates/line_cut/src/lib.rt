@@ -15,7 +15,7 @@ ghost use Rattle.cuts.specs.Cuts.{through};
 ghost use Rattle.cuts.specs.Lines.{GaveLine, lineTold};
 ghost use Rattle.cuts.specs.Code.{CellWithin};
 ghost use Rattle.line_cut.specs.LineCut.{axis, lineCut, loopSegments, onLine, segmentOnLine};
-ghost use Rattle.line_cut.specs.Code.{CanLine, LineGiven, Loop, LoopCut, Loops, onLineOf};
+ghost use Rattle.line_cut.specs.Code.{CanCutLoop, CanCutLoops, CanLine, LineGiven, LoopCut, onLineOf};
 use cell::Reading;
 use cell::types::SpaceType;
 use clip::Found;
@@ -115,12 +115,12 @@ fn line_large(
     let n = s.nodes;
     let f = s.loops;
     cut_loops(
-        plane,
-        tol,
         &points,
         s.points,
         &nodes[..n],
         &ends[..f],
+        plane,
+        tol,
         &mut polygon,
         &mut clipped,
         &mut flat,
@@ -162,12 +162,12 @@ fn line_fixed(
     let n = s.nodes;
     let f = s.loops;
     cut_loops(
-        plane,
-        tol,
         &points,
         s.points,
         &nodes[..n],
         &ends[..f],
+        plane,
+        tol,
         &mut polygon,
         &mut clipped,
         &mut flat,
@@ -177,18 +177,18 @@ fn line_fixed(
 
 // Cuts each loop by y = 0 and writes the segments on the line. Gives how many there are.
 fn cut_loops(
-    plane: Plane,
-    tol: f64,
     points: &[f64],
     p: usize,
     nodes: &[u32],
     ends: &[u32],
+    plane: Plane,
+    tol: f64,
     polygon: &mut [f64],
     clipped: &mut [f64],
     flat: &mut [f64],
     numbers: &mut [f64],
 ) -> Found
-    requires { ⌜ Loops p (now points) (now nodes) (now ends) (now polygon) (now clipped) (now flat) (now numbers) ⌝ }
+    requires { ⌜ CanCutLoops p (now points) (now nodes) (now ends) (now polygon) (now clipped) (now flat) (now numbers) ⌝ }
     ensures { λ r. ⌜ LoopCut (now (numbers .entry))
         (onLineOf (frameOf plane) tol (rows 2 p (now (points .entry))) (now (ends .entry)) (now (nodes .entry)))
         r (now (numbers .exit)) ⌝ }
@@ -199,11 +199,11 @@ fn cut_loops(
     while i < ends.len() {
         let e = wide(ends[i]);
         let found = cut_loop(
-            plane,
-            tol,
             points,
             p,
             &nodes[s..e],
+            plane,
+            tol,
             polygon,
             clipped,
             flat,
@@ -219,18 +219,18 @@ fn cut_loops(
 
 // Cuts one loop by y = 0: its segments on the line, after the `from` in numbers. Tells how many there are then.
 fn cut_loop(
-    plane: Plane,
-    tol: f64,
     points: &[f64],
     p: usize,
     nodes: &[u32],
+    plane: Plane,
+    tol: f64,
     polygon: &mut [f64],
     clipped: &mut [f64],
     flat: &mut [f64],
     numbers: &mut [f64],
     from: usize,
 ) -> Found
-    requires { ⌜ Loop p (now points) (now nodes) (now polygon) (now clipped) (now flat)
+    requires { ⌜ CanCutLoop p (now points) (now nodes) (now polygon) (now clipped) (now flat)
         × (6 * (from + atMost (length (now nodes))) ≤ length (now numbers)) ⌝ }
     ensures { λ r. ⌜ LoopCut (now (numbers .entry))
         (segs 3 from (now (numbers .entry))
@@ -286,15 +286,15 @@ fn put_on_line(flat: &[f64], k: usize, plane: Plane, out: &mut [f64], from: usiz
     let mut i = 0;
     while i < k {
         let j = 2 * (from + i);
-        vector::put3(out, j, on_line(plane, vector::coord2(flat, 2 * i)));
-        vector::put3(out, j + 1, on_line(plane, vector::coord2(flat, 2 * i + 1)));
+        vector::put3(out, j, on_line(vector::coord2(flat, 2 * i), plane));
+        vector::put3(out, j + 1, on_line(vector::coord2(flat, 2 * i + 1), plane));
         i += 1;
     }
     from + k
 }
 
 // The point of the line with the coordinate a.x along it.
-fn on_line(plane: Plane, a: Vec2) -> Vec3
+fn on_line(a: Vec2, plane: Plane) -> Vec3
     ensures { λ r. ⌜ vec3 r ≡ onLine (frameOf plane) (vec2 a) ⌝ }
 {
     let o = plane.origin;

@@ -17,7 +17,7 @@ use Rattle.weld.specs.Weld.{listedEdges}
 use Rattle.weld.proofs.Edges.{listed-few}
 use Rattle.stitch.specs.Stitch.{Answer, ruleOf, stitched}
 use Rattle.stitch.specs.Claim.{Claim}
-use Rattle.stitch.specs.Code.{Answered}
+use Rattle.stitch.specs.Code.{AnswerGiven}
 use Rattle.stitch.specs.Entry.{Buffers, buffers, Lengths, lengths, room, Told, told, toldRefused, toldAnswer, Gave, answerRead}
 use Rattle.stitch.specs.Entry.{stitchAlone, StitchSection, StitchSound, StitchClaim, Small, StitchSmall}
 use Rattle.stitch.specs.declared.Rule.{Rule}
@@ -34,7 +34,7 @@ gave-refusal b e =
 
 -- a section is what stitching answered
 pub gave-section : {o : Outcome Answer} {a : Answer} {r : Stitched} {numbers numbers′ : List Float} {nodes nodes′ ends ends′ : List ℕ}
-    → o ≡ found a → Answered a r numbers numbers′ nodes nodes′ ends ends′
+    → o ≡ found a → AnswerGiven a r numbers numbers′ nodes nodes′ ends ends′
     → Gave o (record { refusal = 0; answer = r }) (buffers numbers nodes ends) (buffers numbers′ nodes′ ends′)
 gave-section e g =
     rw e

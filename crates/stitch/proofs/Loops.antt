@@ -37,19 +37,19 @@ steps-onto e (x ∷ l) b acc =
     omega arith
 
 -- the first of a reversed list is its last, and the last its first
-record Ends (b : ℕ) (l acc : List ℕ) : Type 0 where
+record Reversal (b : ℕ) (l acc : List ℕ) : Type 0 where
   others : List ℕ
   is : reverseAux l (b ∷ acc) ≡ lastOr b l ∷ others
   final : lastOr (lastOr b l) others ≡ lastOr b acc
 
-ends-of : (b : ℕ) (l acc : List ℕ) → Ends b l acc
-ends-of b [] acc = record { others = acc; is = refl; final = refl }
-ends-of b (x ∷ l) acc = let g = ends-of x l (b ∷ acc) in record { others = g .others; is = g .is; final = g .final }
+reversal : (b : ℕ) (l acc : List ℕ) → Reversal b l acc
+reversal b [] acc = record { others = acc; is = refl; final = refl }
+reversal b (x ∷ l) acc = let g = reversal x l (b ∷ acc) in record { others = g .others; is = g .is; final = g .final }
 
 sides-reverse : (e : Edge) (nodes : List ℕ) → timesEdge e (sides (reverse nodes)) ≡ timesEdge e (sides nodes)
 sides-reverse e [] = refl
 sides-reverse e (a ∷ l) =
-    let g = ends-of a l [] in
+    let g = reversal a l [] in
     let i = steps-onto e l a [] in
     let x : timesEdge e (sides (reverseAux l (a ∷ []))) ≡ bit (same (between a (lastOr a l)) e) + timesEdge e
     (steps (reverseAux l (a ∷ []))) =

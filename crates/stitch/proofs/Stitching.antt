@@ -24,7 +24,7 @@ use Rattle.walk.proofs.Marks.{fresh-unused}
 use Rattle.stitch.proofs.Once.{walk-left, walk-length}
 use Rattle.stitch.proofs.Loops.{turned-length, loop-closed}
 use Rattle.stitch.proofs.Counted.{plus-in-walks, plus-in-loops}
-use Rattle.stitch.proofs.Turns.{Fit, loop-fits}
+use Rattle.stitch.proofs.Turns.{ClosedWalk, closed-walk}
 
 -- ---- writing over the start of a buffer, and then more
 pub over-set : (a xs : List ℕ) (v : ℕ) → length a < length xs → set (over a xs) (length a) v ≡ over (a ++ v ∷ []) xs
@@ -156,7 +156,7 @@ module _ (ps : List Vector) (es : List Edge) (rule : Rule) (m : ℕ) (ws : List 
           counting = record { left = left; three = let c = b .counting .three in omega (arith, i) };
         })
 
-    step-loop : isLoop (kind ps rule w) ≡ true → Fit w tally ends → Stitching ps rule m ws v (w .used) r nodes nodes″ ends ends″
+    step-loop : isLoop (kind ps rule w) ≡ true → ClosedWalk w tally ends → Stitching ps rule m ws v (w .used) r nodes nodes″ ends ends″
     unfolding loops countsFrom
     step-loop e fit =
         let b = before in
@@ -178,14 +178,14 @@ module _ (ps : List Vector) (es : List Edge) (rule : Rule) (m : ℕ) (ws : List 
           counting = record { left = left; three = let c = b .counting .three in omega (arith, fit .three, i) };
         })
 
-    step-free : (w .closed ≡ true → Fit w tally ends) → Stitching ps rule m ws (leftAt ps es (k + 1) us′) us′ r nodes nodes″ ends ends″
+    step-free : (w .closed ≡ true → ClosedWalk w tally ends) → Stitching ps rule m ws (leftAt ps es (k + 1) us′) us′ r nodes nodes″ ends ends″
     step-free fit = rw marks (by-test (isLoop (kind ps rule w)) refl)
       where
         by-test : (b : Bool) → isLoop (kind ps rule w) ≡ b → Stitching ps rule m ws v (w .used) r nodes nodes″ ends ends″
         by-test true e = step-loop e (fit (loop-closed ps rule w e))
         by-test false e = step-other e
 
-  pub stitching-step : (b : Bool) → b ≡ getD us k true → (b ≡ false → w .closed ≡ true → Fit w tally ends)
+  pub stitching-step : (b : Bool) → b ≡ getD us k true → (b ≡ false → w .closed ≡ true → ClosedWalk w tally ends)
       → Turn ps es rule k b us tally nodes′ ends′ us′ r nodes″ ends″
       → Stitching ps rule m ws (leftAt ps es (k + 1) us′) us′ r nodes nodes″ ends ends″
   stitching-step true e fit u = step-used (sym e) (u .0) (u .1) (u .2) (u .3)
@@ -222,7 +222,7 @@ module _ {n : ℕ} {zs : List Float} {xs ys : List ℕ} {rule : Rule} {us₀ : L
     (g : Looping n zs xs ys rule us₀ walked₀ nodes₀ ends₀ us walked nodes ends tally k)
     (marked₀ : Marked n zs xs ys us₀) (spare₀ : Spare (edgesOf xs ys) walked₀ nodes₀ ends₀) where
   pub looping-marked : Marked n zs xs ys us
-  looping-marked = record { ends = marked₀ .ends; marks = g .marks ∙ marked₀ .marks }
+  looping-marked = record { graph = marked₀ .graph; marks = g .marks ∙ marked₀ .marks }
 
   pub looping-spare : Spare (edgesOf xs ys) walked nodes ends
   looping-spare =
@@ -243,7 +243,7 @@ module _ {n : ℕ} {zs : List Float} {xs ys : List ℕ} {rule : Rule} {us₀ : L
       → Turn (rows 2 n zs) (edgesOf xs ys) rule k (getD us k true) us tally nodes ends us′ r nodes′ ends′
       → Looping n zs xs ys rule us₀ walked₀ nodes₀ ends₀ us′ walked′ nodes′ ends′ r (k + 1)
   looping-step h {us′} {nodes′ = nodes′} {ends′ = ends′} {r = r} lu lw ln le u =
-      let m = edges-length xs ys (marked₀ .ends .same) in
+      let m = edges-length xs ys (marked₀ .graph .same) in
       record {
         within = omega arith;
         marks = lu ∙ g .marks;
@@ -254,13 +254,13 @@ module _ {n : ℕ} {zs : List Float} {xs ys : List ℕ} {rule : Rule} {us₀ : L
             stitching-step (rows 2 n zs) (edgesOf xs ys) rule (length xs) (walks (rows 2 n zs) (edgesOf xs ys)) k us tally nodes₀ nodes ends₀ ends
             (g .so-far) (omega arith) us′ r nodes′ ends′ (getD us k true) refl
             (λ f c.
-            let o = loop-fits k looping-marked looping-spare (g .so-far .counting) h f c in
+            let o = closed-walk k looping-marked looping-spare (g .so-far .counting) h f c in
             record { for-end = (let q = g .ends-length′ in omega (arith, o .for-end)); same = o .same; three = o .three })
             u;
       }
 
   pub looping-end : length xs ≤ k → Wrote (rows 2 n zs) rule (length xs) (walks (rows 2 n zs) (edgesOf xs ys)) tally nodes₀ nodes ends₀ ends
   looping-end h =
-      let m = edges-length xs ys (marked₀ .ends .same) in
+      let m = edges-length xs ys (marked₀ .graph .same) in
       stitching-end (rows 2 n zs) (edgesOf xs ys) rule (length xs) (walks (rows 2 n zs) (edgesOf xs ys)) k us tally nodes₀ nodes ends₀ ends
       (g .so-far) (omega arith)

@@ -19,7 +19,7 @@ use Rattle.stitch.specs.declared.Rule.{Rule}
 use Rattle.stitch.specs.declared.Tally.{Tally}
 use Rattle.walk.specs.Walk.{edgeAt, other, nextEdge, Walk, rest, walkFrom}
 use Rattle.stitch.specs.Stitch.{inWalks, kindBy, turned}
-use Rattle.walk.specs.Code.{Ends, Marked, Went, Below}
+use Rattle.walk.specs.Code.{Graph, Marked, Went, Below}
 use Rattle.stitch.specs.Code.{edgesIn, Finished, Finishing, Spare, Counting, Turn}
 use Rattle.walk.proofs.Junction.{next-free}
 use Rattle.stitch.proofs.Once.{walk-left}
@@ -64,13 +64,13 @@ read-mark [] k h = absurd (not-suc-le-zero h)
 read-mark (u ∷ us) zero h = refl
 read-mark (u ∷ us) (suc k) h = read-mark us k (omega arith)
 
-ends-within : (n : ℕ) (zs : List Float) (xs ys : List ℕ) → Ends n zs xs ys → Within (edgesOf xs ys) n
-ends-within n zs xs ys e k h =
+graph-within : (n : ℕ) (zs : List Float) (xs ys : List ℕ) → Graph n zs xs ys → Within (edgesOf xs ys) n
+graph-within n zs xs ys e k h =
     let m = edges-length xs ys (e .same) in
     rw (edges-getD xs ys k (e .same)) (e .within k (omega arith))
 
 -- what a loop asks: room for its end, as many nodes as edges, and three at least
-pub record Fit (w : Walk) (tally : Tally) (ends : List ℕ) : Type 0 where
+pub record ClosedWalk (w : Walk) (tally : Tally) (ends : List ℕ) : Type 0 where
   pub for-end : tally .loops < length ends
   pub same : length (w .nodes) ≡ length (w .edges)
   pub three : 3 ≤ length (w .edges)
@@ -82,7 +82,7 @@ module _ {n : ℕ} {zs : List Float} {xs ys : List ℕ} {us : List Bool} {tally 
   w = walkFrom (rows 2 n zs) (edgesOf xs ys) k us
 
   count : length (edgesOf xs ys) ≡ length xs
-  count = edges-length xs ys (marked .ends .same)
+  count = edges-length xs ys (marked .graph .same)
 
   marks : length us ≡ length (edgesOf xs ys)
   marks = marked .marks ∙ sym count
@@ -113,8 +113,8 @@ module _ {n : ℕ} {zs : List Float} {xs ys : List ℕ} {us : List Bool} {tally 
       let m = marks in
       omega (arith, counting .three, spare .ends-room)
 
-  pub loop-fits : w .closed ≡ true → Fit w tally ends
-  loop-fits c =
+  pub closed-walk : w .closed ≡ true → ClosedWalk w tally ends
+  closed-walk c =
       let e = closed-nodes c in
       record {
         for-end = room-for-end c;
@@ -137,9 +137,9 @@ module _ {n : ℕ} {zs : List Float} {xs ys : List ℕ} {us : List Bool} {tally 
         let m = marks in
         rw (went .nodes-are, went .closed-is)
         (record {
-          room = marked .ends .room;
+          room = marked .graph .room;
           some = omega arith;
-          below = walk-below (rows 2 n zs) (edgesOf xs ys) n (ends-within n zs xs ys (marked .ends)) k us (let o = count in omega arith);
+          below = walk-below (rows 2 n zs) (edgesOf xs ys) n (graph-within n zs xs ys (marked .graph)) k us (let o = count in omega arith);
           small = omega (arith, spare .few);
           nodes-room = λ c. (let e = closed-nodes c in omega (arith, spare .nodes-room));
           ends-room = room-for-end;

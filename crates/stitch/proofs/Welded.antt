@@ -20,7 +20,7 @@ use Rattle.walk.specs.Walk.{walks}
 use Rattle.stitch.specs.Stitch.{loops, countsOf, Answer, stitchedWithin}
 use Rattle.stitch.specs.Claim.{Claim}
 use Rattle.walk.specs.Code.{Marked}
-use Rattle.stitch.specs.Code.{Spare, Wrote, Stitchable, Tables, Answered, cut, answerIn, Stitches}
+use Rattle.stitch.specs.Code.{Spare, Wrote, Stitchable, Tables, AnswerGiven, cut, answerIn, Stitches}
 use Rattle.stitch.proofs.Claim.{claim}
 use Rattle.rows.proofs.Lists.{length-ends}
 
@@ -56,7 +56,7 @@ cut-ends n (l ∷ ls) tail =
     )
 
 pub read-back : (a : Answer) (r : Stitched) (numbers numbers′ : List Float) (nodes nodes′ ends ends′ : List ℕ)
-    → Answered a r numbers numbers′ nodes nodes′ ends ends′ → answerIn r numbers′ nodes′ ends′ ≡ a
+    → AnswerGiven a r numbers numbers′ nodes nodes′ ends ends′ → answerIn r numbers′ nodes′ ends′ ≡ a
 read-back a r numbers numbers′ nodes nodes′ ends ends′ g =
     let m : length (endsFrom 0 (a .loops)) ≡ r .loops = length-ends 0 (a .loops) ∙ sym (g .loop-count) in
     let e : take (r .loops) ends′ ≡ endsFrom 0 (a .loops) =
@@ -68,7 +68,7 @@ read-back a r numbers numbers′ nodes nodes′ ends ends′ g =
 
 -- so the claim about the answer is one about what the buffers hold
 claimed : (rule : Rule) (ss : List Seg) (r : Stitched) (numbers numbers′ : List Float) (nodes nodes′ ends ends′ : List ℕ)
-    → Answered (stitchedWithin rule ss) r numbers numbers′ nodes nodes′ ends ends′ → Claim rule ss (answerIn r numbers′ nodes′ ends′)
+    → AnswerGiven (stitchedWithin rule ss) r numbers numbers′ nodes nodes′ ends ends′ → Claim rule ss (answerIn r numbers′ nodes′ ends′)
 claimed rule ss r numbers numbers′ nodes nodes′ ends ends′ g =
     subst (λ (a : Answer). Claim rule ss a) (sym (read-back (stitchedWithin rule ss) r numbers numbers′ nodes nodes′ ends ends′ g)) (claim rule ss)
 
@@ -101,7 +101,7 @@ module _ (rule : Rule) {ss : List Float} {s : ℕ} {zs₀ : List Float} {n m : �
       let a = first in
       let b = second in
       record {
-        ends =
+        graph =
             record {
               room = omega (arith, w .few-points, lent .for-points);
               same = omega arith;
@@ -150,13 +150,13 @@ module _ (rule : Rule) {ss : List Float} {s : ℕ} {zs₀ : List Float} {n m : �
       let l : length (take (2 * n) zs) ≡ 2 * n = length-take-le (2 * n) zs room in
       rw (first, l, ← w .rest) (sym (take-append-drop (2 * n) zs))
 
-  answered : (tally : Tally) (nodes′ ends′ : List ℕ)
+  answer-given : (tally : Tally) (nodes′ ends′ : List ℕ)
       → Wrote (rows 2 n zs) rule (length (take m xs)) (walks (rows 2 n zs) (edgesOf (take m xs) (take m ys))) tally nodes nodes′ ends ends′
-      → Answered (stitchedWithin rule (segs 2 s ss))
+      → AnswerGiven (stitchedWithin rule (segs 2 s ss))
       (record { points = n; nodes = tally .counts .«in_loops»; loops = tally .loops; counts = tally .counts })
       zs₀ zs nodes nodes′ ends ends′
   unfolding stitchedWithin
-  answered tally nodes′ ends′ o =
+  answer-given tally nodes′ ends′ o =
       let ps = weldedPoints (rule .tol2) (segs 2 s ss) in
       let es = listedEdges (rule .tol2) (segs 2 s ss) in
       let a = first in
@@ -178,7 +178,7 @@ module _ (rule : Rule) {ss : List Float} {s : ℕ} {zs₀ : List Float} {n m : �
       (record { points = n; nodes = tally .counts .«in_loops»; loops = tally .loops; counts = tally .counts })
       zs₀ zs nodes nodes′ ends ends′
   stitches tally nodes′ ends′ o =
-      let g = answered tally nodes′ ends′ o in
+      let g = answer-given tally nodes′ ends′ o in
       record { gave = g; claim = claimed rule (segs 2 s ss) _ zs₀ zs nodes nodes′ ends ends′ g }
 
 -- ---- the tables of a tier, for n segments

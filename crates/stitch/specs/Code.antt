@@ -101,7 +101,7 @@ pub record Tables (s : ℕ) (smaller larger : List ℕ) (used : List Bool) (walk
 
 -- An answer has been given: its points, the nodes of its loops and their ends are written over the start of the buffers, whose
 -- remainder is as before, and its counts are returned.
-pub record Answered (a : Answer) (r : Stitched) (numbers numbers′ : List Float) (nodes nodes′ ends ends′ : List ℕ) : Type 0 where
+pub record AnswerGiven (a : Answer) (r : Stitched) (numbers numbers′ : List Float) (nodes nodes′ ends ends′ : List ℕ) : Type 0 where
   pub numbers-are : numbers′ ≡ over (flatten (a .points)) numbers
   pub points-are : rows 2 (r .points) numbers′ ≡ a .points
   pub nodes-are : nodes′ ≡ over (flatten (a .loops)) nodes
@@ -128,5 +128,5 @@ answerIn r numbers nodes ends =
 -- What stitching does: it gives the answer of the definition, and the claim holds of what it gives.
 pub record Stitches (rule : Rule) (ss : List Seg) (r : Stitched) (numbers numbers′ : List Float) (nodes nodes′ ends ends′ : List ℕ) : Type 0
   where
-    pub gave : Answered (stitchedWithin rule ss) r numbers numbers′ nodes nodes′ ends ends′
+    pub gave : AnswerGiven (stitchedWithin rule ss) r numbers numbers′ nodes nodes′ ends ends′
     pub claim : Claim rule ss (answerIn r numbers′ nodes′ ends′)

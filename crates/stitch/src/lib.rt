@@ -74,19 +74,19 @@ pub fn stitch_segments(
     segments: &[f64],
     s: usize,
     tol: f64,
-    points: &mut [f64],
+    numbers: &mut [f64],
     nodes: &mut [u32],
     ends: &mut [u32],
 ) -> Stitched
-    requires { ⌜ Stitchable s (now segments) (now points) (now nodes) (now ends) ⌝ }
-    ensures { λ r. ⌜ Stitches (ruleOf tol) (segs 2 s (now (segments .entry))) r (now (points .entry))
-        (now (points .exit)) (now (nodes .entry)) (now (nodes .exit)) (now (ends .entry)) (now (ends .exit)) ⌝ }
+    requires { ⌜ Stitchable s (now segments) (now numbers) (now nodes) (now ends) ⌝ }
+    ensures { λ r. ⌜ Stitches (ruleOf tol) (segs 2 s (now (segments .entry))) r (now (numbers .entry))
+        (now (numbers .exit)) (now (nodes .entry)) (now (nodes .exit)) (now (ends .entry)) (now (ends .exit)) ⌝ }
 {
     let rule = Rule { tol2: tol * tol };
     if 16 < s {
-        return stitch_many(segments, s, rule, points, nodes, ends);
+        return stitch_many(segments, s, rule, numbers, nodes, ends);
     }
-    stitch_few(segments, s, rule, points, nodes, ends)
+    stitch_few(segments, s, rule, numbers, nodes, ends)
 }
 
 // Stitches by a rule, with tables for 16 segments.
@@ -94,12 +94,12 @@ fn stitch_few(
     segments: &[f64],
     s: usize,
     rule: Rule,
-    points: &mut [f64],
+    numbers: &mut [f64],
     nodes: &mut [u32],
     ends: &mut [u32],
 ) -> Stitched
-    requires { ⌜ Stitchable s (now segments) (now points) (now nodes) (now ends) × (s ≤ 16) ⌝ }
-    ensures { λ r. ⌜ Stitches rule (segs 2 s (now (segments .entry))) r (now (points .entry)) (now (points .exit))
+    requires { ⌜ Stitchable s (now segments) (now numbers) (now nodes) (now ends) × (s ≤ 16) ⌝ }
+    ensures { λ r. ⌜ Stitches rule (segs 2 s (now (segments .entry))) r (now (numbers .entry)) (now (numbers .exit))
         (now (nodes .entry)) (now (nodes .exit)) (now (ends .entry)) (now (ends .exit)) ⌝ }
 {
     let mut smaller = [0u32; 16];
@@ -111,14 +111,14 @@ fn stitch_few(
         segments,
         s,
         rule,
-        points,
-        nodes,
-        ends,
         &mut smaller,
         &mut larger,
         &mut used,
         &mut walked,
         &mut last,
+        numbers,
+        nodes,
+        ends,
     )
 }
 
@@ -127,12 +127,12 @@ fn stitch_many(
     segments: &[f64],
     s: usize,
     rule: Rule,
-    points: &mut [f64],
+    numbers: &mut [f64],
     nodes: &mut [u32],
     ends: &mut [u32],
 ) -> Stitched
-    requires { ⌜ Stitchable s (now segments) (now points) (now nodes) (now ends) ⌝ }
-    ensures { λ r. ⌜ Stitches rule (segs 2 s (now (segments .entry))) r (now (points .entry)) (now (points .exit))
+    requires { ⌜ Stitchable s (now segments) (now numbers) (now nodes) (now ends) ⌝ }
+    ensures { λ r. ⌜ Stitches rule (segs 2 s (now (segments .entry))) r (now (numbers .entry)) (now (numbers .exit))
         (now (nodes .entry)) (now (nodes .exit)) (now (ends .entry)) (now (ends .exit)) ⌝ }
 {
     let mut smaller = [0u32; 384];
@@ -144,14 +144,14 @@ fn stitch_many(
         segments,
         s,
         rule,
-        points,
-        nodes,
-        ends,
         &mut smaller,
         &mut larger,
         &mut used,
         &mut walked,
         &mut last,
+        numbers,
+        nodes,
+        ends,
     )
 }
 
@@ -160,33 +160,33 @@ fn stitch_within(
     segments: &[f64],
     s: usize,
     rule: Rule,
-    points: &mut [f64],
-    nodes: &mut [u32],
-    ends: &mut [u32],
     smaller: &mut [u32],
     larger: &mut [u32],
     used: &mut [bool],
     walked: &mut [u32],
     last: &mut [u16],
+    numbers: &mut [f64],
+    nodes: &mut [u32],
+    ends: &mut [u32],
 ) -> Stitched
-    requires { ⌜ Stitchable s (now segments) (now points) (now nodes) (now ends)
+    requires { ⌜ Stitchable s (now segments) (now numbers) (now nodes) (now ends)
         × Tables s (now smaller) (now larger) (now used) (now walked) (now last) ⌝ }
-    ensures { λ r. ⌜ Stitches rule (segs 2 s (now (segments .entry))) r (now (points .entry)) (now (points .exit))
+    ensures { λ r. ⌜ Stitches rule (segs 2 s (now (segments .entry))) r (now (numbers .entry)) (now (numbers .exit))
         (now (nodes .entry)) (now (nodes .exit)) (now (ends .entry)) (now (ends .exit)) ⌝ }
 {
-    let w = weld::weld(segments, s, points, smaller, larger, rule.tol2);
+    let w = weld::weld(segments, s, rule.tol2, numbers, smaller, larger);
     let m = w.edges;
     let tally = stitch_edges(
-        points,
+        numbers,
         w.points,
         &smaller[..m],
         &larger[..m],
+        rule,
         &mut used[..m],
         walked,
-        rule,
+        last,
         nodes,
         ends,
-        last,
     );
     let counts = tally.counts;
     Stitched {
@@ -209,12 +209,12 @@ fn stitch_edges(
     n: usize,
     smaller: &[u32],
     larger: &[u32],
+    rule: Rule,
     used: &mut [bool],
     walked: &mut [u32],
-    rule: Rule,
+    last: &mut [u16],
     nodes: &mut [u32],
     ends: &mut [u32],
-    last: &mut [u16],
 ) -> Tally
     requires { ⌜ Marked n (now points) (now smaller) (now larger) (now used)
         × Spare (edgesOf (now smaller) (now larger)) (now walked) (now nodes) (now ends)
@@ -241,13 +241,13 @@ fn stitch_edges(
             n,
             smaller,
             larger,
-            used,
-            walked,
-            rule,
-            nodes,
-            ends,
             last,
             k,
+            rule,
+            used,
+            walked,
+            nodes,
+            ends,
             tally,
         );
         k += 1;
@@ -261,13 +261,13 @@ fn stitch_from(
     n: usize,
     smaller: &[u32],
     larger: &[u32],
-    used: &mut [bool],
-    walked: &mut [u32],
-    rule: Rule,
-    nodes: &mut [u32],
-    ends: &mut [u32],
     last: &[u16],
     k: usize,
+    rule: Rule,
+    used: &mut [bool],
+    walked: &mut [u32],
+    nodes: &mut [u32],
+    ends: &mut [u32],
     tally: Tally,
 ) -> Tally
     requires { ⌜ Marked n (now points) (now smaller) (now larger) (now used)
@@ -280,7 +280,7 @@ fn stitch_from(
     if used[k] {
         return tally;
     }
-    let w = walk::walk(points, n, smaller, larger, used, walked, last, k);
+    let w = walk::walk(points, n, smaller, larger, last, k, used, walked);
     let count = w.nodes;
     finish(
         points,
@@ -323,7 +323,7 @@ fn finish(
     let area = signed_area(points, n, walked);
     if rule.tol2 < vector::absolute(area) {
         let at = tally.loops;
-        put_loop(nodes, counts.in_loops, walked, area < 0.0);
+        put_loop(walked, area < 0.0, nodes, counts.in_loops);
         ends[at] = (counts.in_loops + m) as u32;
         return Tally {
             loops: at + 1,
@@ -362,20 +362,20 @@ fn cross_at(points: &[f64], n: usize, a: u32, b: u32) -> f64
 }
 
 // Writes the nodes of a loop from `at` on, reversed as a whole if asked.
-fn put_loop(out: &mut [u32], at: usize, nodes: &[u32], reversed: bool)
+fn put_loop(nodes: &[u32], reversed: bool, out: &mut [u32], at: usize)
     requires { ⌜ at + length (now nodes) ≤ length (now out) ⌝ }
     ensures { λ _. ⌜ now (out .exit) ≡ paste (now (out .entry)) at
         (cond reversed (reverse (now (nodes .entry))) (now (nodes .entry))) (length (now (nodes .entry))) ⌝ }
 {
     if reversed {
-        put_reversed(out, at, nodes);
+        put_reversed(nodes, out, at);
     } else {
-        put_nodes(out, at, nodes);
+        put_nodes(nodes, out, at);
     }
 }
 
 // Writes nodes in their order.
-fn put_nodes(out: &mut [u32], at: usize, nodes: &[u32])
+fn put_nodes(nodes: &[u32], out: &mut [u32], at: usize)
     requires { ⌜ at + length (now nodes) ≤ length (now out) ⌝ }
     ensures { λ _. ⌜ now (out .exit) ≡ paste (now (out .entry)) at (now (nodes .entry))
         (length (now (nodes .entry))) ⌝ }
@@ -388,7 +388,7 @@ fn put_nodes(out: &mut [u32], at: usize, nodes: &[u32])
 }
 
 // Writes nodes from the last to the first.
-fn put_reversed(out: &mut [u32], at: usize, nodes: &[u32])
+fn put_reversed(nodes: &[u32], out: &mut [u32], at: usize)
     requires { ⌜ at + length (now nodes) ≤ length (now out) ⌝ }
     ensures { λ _. ⌜ now (out .exit) ≡ paste (now (out .entry)) at (reverse (now (nodes .entry)))
         (length (now (nodes .entry))) ⌝ }

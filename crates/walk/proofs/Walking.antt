@@ -18,7 +18,7 @@ use Rattle.weld.proofs.Lists.{edges-length, edges-getD}
 use Rattle.walk.specs.declared.Next.{Next}
 use Rattle.walk.specs.declared.Next.the-variants as next
 use Rattle.walk.specs.Walk.{edgeAt, other, nextEdge, Walk, onward, rest, walkFrom}
-use Rattle.walk.specs.Code.{unused, Ends, Marked, Went}
+use Rattle.walk.specs.Code.{unused, Graph, Marked, Went}
 use Rattle.walk.proofs.Marks.{unused-le, unused-set}
 use Rattle.walk.proofs.Junction.{Free, next-free}
 use Rattle.walk.proofs.Buffers.{end-below}
@@ -135,28 +135,28 @@ going-start n zs xs ys us ns k r h l f =
       marks = length-set us k true ∙ r .marks;
       nodes = refl;
       left = let a = unused-set us k f in let b = unused-le us in let q = r .marks in omega arith;
-      p-in = r .ends .within k h .0;
-      c-in = r .ends .within k h .1;
+      p-in = r .graph .within k h .0;
+      c-in = r .graph .within k h .1;
       along = along-start (rows 2 n zs) (edgesOf xs ys) k (getD xs k 0) (getD ys k 0) (set us k true) ns (omega arith);
     }
 
 module _ {n : ℕ} {zs : List Float} {xs ys : List ℕ} {s : ℕ} {w : Walk} {room : ℕ} {us : List Bool} {ns : List ℕ} {m p c : ℕ}
-    (g : Going n zs xs ys s w room us ns m p c) (ends : Ends n zs xs ys) (fits : length xs < room) where
+    (g : Going n zs xs ys s w room us ns m p c) (graph : Graph n zs xs ys) (fits : length xs < room) where
   size : m ≤ length (edgesOf xs ys)
-  size = let l = edges-length xs ys (ends .same) in let q = g .left in omega arith
+  size = let l = edges-length xs ys (graph .same) in let q = g .left in omega arith
 
   pub in-buffer : m < length ns
   in-buffer = let q = g .left in let v = g .nodes in omega arith
 
   pub marked : Marked n zs xs ys us
-  marked = record { ends = ends; marks = g .marks }
+  marked = record { graph = graph; marks = g .marks }
 
   module _ {k : ℕ} (e : nextEdge (rows 2 n zs) (edgesOf xs ys) us p c ≡ next.Edge k) where
     free : Free c (edgesOf xs ys) us k
     free = next-free (rows 2 n zs) (edgesOf xs ys) us p c k e
 
     pub free-in : k < length xs
-    free-in = let l = edges-length xs ys (ends .same) in omega (arith, free .inside)
+    free-in = let l = edges-length xs ys (graph .same) in omega (arith, free .inside)
 
     pub fewer : unused (set us k true) < unused us
     fewer = let a = unused-set us k (free .free) in omega arith
@@ -164,7 +164,7 @@ module _ {n : ℕ} {zs : List Float} {xs ys : List ℕ} {s : ℕ} {w : Walk} {ro
     pub going-step : {c′ : ℕ} → (c ≡ s → ⊥) → c′ ≡ cond (eqb (getD xs k 0) c) (getD ys k 0) (getD xs k 0)
         → Going n zs xs ys s w room (set us k true) (set ns m c) (m + 1) c c′
     going-step {c′} d v =
-        let i = ends .within k free-in in
+        let i = graph .within k free-in in
         record {
           marks = length-set us k true ∙ g .marks;
           nodes = length-set ns m c ∙ g .nodes;
@@ -173,7 +173,7 @@ module _ {n : ℕ} {zs : List Float} {xs ys : List ℕ} {s : ℕ} {w : Walk} {ro
           c-in = end-below (eqb (getD xs k 0) c) (getD xs k 0) (getD ys k 0) c′ n v (i .0) (i .1);
           along =
               along-step (rows 2 n zs) (edgesOf xs ys) w m s p c us ns (g .along) size k c′ (ne-eqb c s d) e
-              (rw (edges-getD xs ys k (ends .same)) v) in-buffer;
+              (rw (edges-getD xs ys k (graph .same)) v) in-buffer;
         }
 
   pub going-open : (c ≡ s → ⊥) → nextEdge (rows 2 n zs) (edgesOf xs ys) us p c ≡ next.Nothing → Went w (m + 1) false us (set ns m c)

@@ -23,15 +23,15 @@ unused (false ∷ l) = suc (unused l)
 abbrev pub Below : ℕ → List ℕ → Type 0
 Below n ns = (k : ℕ) → k < length ns → getD ns k 0 < n
 
--- the lent slices of a walk: n points, and the edges by their smaller and larger points
-pub record Ends (n : ℕ) (points : List Float) (smaller larger : List ℕ) : Type 0 where
+-- a graph in lent slices: n points, and edges between them by their smaller and larger points
+pub record Graph (n : ℕ) (points : List Float) (smaller larger : List ℕ) : Type 0 where
   pub room : 2 * n ≤ length points
   pub same : length smaller ≡ length larger
   pub within : (k : ℕ) → k < length smaller → (getD smaller k 0 < n) × (getD larger k 0 < n)
 
 -- the same with a mark for each edge
 pub record Marked (n : ℕ) (points : List Float) (smaller larger : List ℕ) (used : List Bool) : Type 0 where
-  pub ends : Ends n points smaller larger
+  pub graph : Graph n points smaller larger
   pub marks : length used ≡ length smaller
 
 -- an arrival at the point c from the point p

@@ -8,7 +8,7 @@ ghost use Rattle.vector.specs.Rows.{rows};
 ghost use Rattle.vector.specs.View.{vec2};
 ghost use Rattle.weld.specs.Code.{edgesOf};
 ghost use Rattle.walk.specs.Walk.{clamp, cosineTo, nextEdge, straightest, walkFrom};
-ghost use Rattle.walk.specs.Code.{Arrived, Below, Ends, FirstFrom, Lasts, Marked, Past, Went};
+ghost use Rattle.walk.specs.Code.{Arrived, Below, FirstFrom, Graph, Lasts, Marked, Past, Went};
 ghost use Rattle.walk.specs.Code.{ahead, better, cosineFor};
 use vector::Vec2;
 
@@ -25,10 +25,10 @@ pub fn walk(
     n: usize,
     smaller: &[u32],
     larger: &[u32],
-    used: &mut [bool],
-    nodes: &mut [u32],
     last: &[u16],
     start_edge: usize,
+    used: &mut [bool],
+    nodes: &mut [u32],
 ) -> Walked
     requires { ⌜ Marked n (now points) (now smaller) (now larger) (now used) × («start_edge» < length (now smaller))
         × (length (now smaller) < length (now nodes)) × (getD (now used) «start_edge» true ≡ false)
@@ -293,7 +293,7 @@ fn cosine_along(
     arrival: Arrival,
     k: usize,
 ) -> f64
-    requires { ⌜ Ends n (now points) (now smaller) (now larger) × (k < length (now smaller)) ⌝ }
+    requires { ⌜ Graph n (now points) (now smaller) (now larger) × (k < length (now smaller)) ⌝ }
     ensures { λ r. ⌜ r ≡ cosineFor arrival (rows 2 n (now (points .entry)))
         (edgesOf (now (smaller .entry)) (now (larger .entry))) k ⌝ }
 {

@@ -18,10 +18,10 @@ pub struct Welded {
 pub fn weld(
     segments: &[f64],
     s: usize,
+    tol2: f64,
     points: &mut [f64],
     smaller: &mut [u32],
     larger: &mut [u32],
-    tol2: f64,
 ) -> Welded
     requires { ⌜ Weldable s (now segments) (now points) (now smaller) (now larger) ⌝ }
     ensures { λ r. ⌜ Welds tol2 (now (segments .entry)) s (now (points .entry)) (r .points) (r .edges)
@@ -33,7 +33,7 @@ pub fn weld(
     };
     let mut i = 0;
     while i < s {
-        welded = weld_segment(segments, i, points, smaller, larger, welded, tol2);
+        welded = weld_segment(segments, i, tol2, points, smaller, larger, welded);
         i += 1;
     }
     welded
@@ -43,11 +43,11 @@ pub fn weld(
 fn weld_segment(
     segments: &[f64],
     i: usize,
+    tol2: f64,
     points: &mut [f64],
     smaller: &mut [u32],
     larger: &mut [u32],
     welded: Welded,
-    tol2: f64,
 ) -> Welded
     requires { ⌜ (4 * i + 3 < length (now segments)) × (2 * welded .points + 3 < length (now points))
         × (welded .points + 1 < 2 ^ 32) × (welded .edges < length (now smaller))
@@ -65,9 +65,9 @@ fn weld_segment(
         smaller,
         larger,
         welded.edges,
+        welded.points,
         a.place,
         b.place,
-        welded.points,
     );
     Welded {
         points: b.points,
@@ -117,7 +117,7 @@ fn find(points: &[f64], n: usize, p: Vec2, tol2: f64) -> usize
 
 // Adds the edge between points a and b to the m edges, which are between the first n points, unless a and b are one
 // point or it is listed already.
-fn add_edge(smaller: &mut [u32], larger: &mut [u32], m: usize, a: u32, b: u32, n: usize) -> usize
+fn add_edge(smaller: &mut [u32], larger: &mut [u32], m: usize, n: usize, a: u32, b: u32) -> usize
     requires { ⌜ (m < length (now smaller)) × (length (now smaller) ≡ length (now larger))
         × Within (take m (edgesOf (now smaller) (now larger))) n ⌝ }
     ensures { λ r. ⌜ Added a b m (now (smaller .entry)) (now (larger .entry)) r (now (smaller .exit))
@@ -126,8 +126,8 @@ fn add_edge(smaller: &mut [u32], larger: &mut [u32], m: usize, a: u32, b: u32, n
     if a == b {
         return m;
     }
-    let e = Ends::between(a, b);
-    if known(smaller, larger, m, e, n) {
+    let e = Edge::between(a, b);
+    if known(smaller, larger, m, n, e) {
         return m;
     }
     smaller[m] = e.smaller;
@@ -137,7 +137,7 @@ fn add_edge(smaller: &mut [u32], larger: &mut [u32], m: usize, a: u32, b: u32, n
 
 // Whether e is one of the m edges, which are between the first n points. With a newer point e is none of them, and
 // they are not looked through.
-fn known(smaller: &[u32], larger: &[u32], m: usize, e: Ends, n: usize) -> bool
+fn known(smaller: &[u32], larger: &[u32], m: usize, n: usize, e: Edge) -> bool
     requires { ⌜ (m ≤ length (now smaller)) × (length (now smaller) ≡ length (now larger))
         × Within (take m (edgesOf (now smaller) (now larger))) n ⌝ }
     ensures { λ r. ⌜ r ≡ listed (edge (e .smaller) (e .larger))
@@ -150,7 +150,7 @@ fn known(smaller: &[u32], larger: &[u32], m: usize, e: Ends, n: usize) -> bool
 }
 
 // Whether e is one of the m edges.
-fn listed(smaller: &[u32], larger: &[u32], m: usize, e: Ends) -> bool
+fn listed(smaller: &[u32], larger: &[u32], m: usize, e: Edge) -> bool
     requires { ⌜ (m ≤ length (now smaller)) × (length (now smaller) ≡ length (now larger)) ⌝ }
     ensures { λ r. ⌜ r ≡ listed (edge (e .smaller) (e .larger))
         (take m (edgesOf (now (smaller .entry)) (now (larger .entry)))) ⌝ }
@@ -165,30 +165,30 @@ fn listed(smaller: &[u32], larger: &[u32], m: usize, e: Ends) -> bool
     false
 }
 
-// The two points of an edge.
-struct Ends {
+// An edge by its two points, smaller first.
+struct Edge {
     smaller: u32,
     larger: u32,
 }
 
-impl Ends {
-    // Those of points a and b, smaller first.
-    fn between(a: u32, b: u32) -> Ends
+impl Edge {
+    // The edge between points a and b.
+    fn between(a: u32, b: u32) -> Edge
         ensures { λ r. ⌜ edge (r .smaller) (r .larger) ≡ between a b ⌝ }
     {
         if a < b {
-            return Ends {
+            return Edge {
                 smaller: a,
                 larger: b,
             };
         }
-        Ends {
+        Edge {
             smaller: b,
             larger: a,
         }
     }
 
-    // Whether they are these two.
+    // Whether it is between these two.
     fn same(self, smaller: u32, larger: u32) -> bool
         ensures { λ r. ⌜ r ≡ same (edge (self .smaller) (self .larger)) (edge smaller larger) ⌝ }
     {

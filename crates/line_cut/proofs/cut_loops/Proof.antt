@@ -11,12 +11,12 @@ use Rattle.line_cut.proofs.cut_loops.Statement.{statement}
 use Rattle.line_cut.proofs.cut_loops.Tie as tie
 
 abbrev Inv-loop : tie.InvT-loop
-Inv-loop plane tol points p nodes ends polygon₀ clipped₀ flat₀ numbers₀ k₀ s₀ i₀ polygon clipped flat numbers k s i =
+Inv-loop points p nodes ends plane tol polygon₀ clipped₀ flat₀ numbers₀ k₀ s₀ i₀ polygon clipped flat numbers k s i =
     LoopsCut (frameOf plane) tol (rows 2 p points) nodes ends numbers₀ i s k numbers
     × (length polygon ≡ length polygon₀) × (length clipped ≡ length clipped₀) × (length flat ≡ length flat₀)
 
 abbrev μ-loop : tie.MeasureT-loop
-μ-loop plane tol points p nodes ends polygon₀ clipped₀ flat₀ numbers₀ k₀ s₀ i₀ polygon clipped flat numbers k s i =
+μ-loop points p nodes ends plane tol polygon₀ clipped₀ flat₀ numbers₀ k₀ s₀ i₀ polygon clipped flat numbers k s i =
     length ends - i
 
 loop-holds : tie.Need-loop-holds Inv-loop μ-loop

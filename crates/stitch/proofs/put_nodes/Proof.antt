@@ -8,10 +8,10 @@ use Rattle.stitch.proofs.put_nodes.Statement.{statement}
 use Rattle.stitch.proofs.put_nodes.Tie as tie
 
 abbrev Inv-loop : tie.InvT-loop
-Inv-loop out₀ at nodes j₀ out j = Copying out₀ at nodes (length nodes) j out
+Inv-loop nodes out₀ at j₀ out j = Copying out₀ at nodes (length nodes) j out
 
 abbrev μ-loop : tie.MeasureT-loop
-μ-loop out₀ at nodes j₀ out j = length nodes - j
+μ-loop nodes out₀ at j₀ out j = length nodes - j
 
 loop-holds : tie.Need-loop-holds Inv-loop μ-loop
 loop-holds c = copy-start refl (c .pre)

@@ -9,10 +9,10 @@ use Rattle.stitch.proofs.put_reversed.Statement.{statement}
 use Rattle.stitch.proofs.put_reversed.Tie as tie
 
 abbrev Inv-loop : tie.InvT-loop
-Inv-loop out₀ at nodes k₀ out k = Copying out₀ at (reverse nodes) (length nodes) k out
+Inv-loop nodes out₀ at k₀ out k = Copying out₀ at (reverse nodes) (length nodes) k out
 
 abbrev μ-loop : tie.MeasureT-loop
-μ-loop out₀ at nodes k₀ out k = length nodes - k
+μ-loop nodes out₀ at k₀ out k = length nodes - k
 
 loop-holds : tie.Need-loop-holds Inv-loop μ-loop
 loop-holds c =

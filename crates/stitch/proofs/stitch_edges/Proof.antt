@@ -9,27 +9,27 @@ use Rattle.stitch.proofs.stitch_edges.Statement.{statement}
 use Rattle.stitch.proofs.stitch_edges.Tie as tie
 
 abbrev Inv-loop : tie.InvT-loop
-Inv-loop points n smaller larger used₀ walked₀ rule nodes₀ ends₀ last tally₀ k₀ used walked nodes ends tally k =
+Inv-loop points n smaller larger rule used₀ walked₀ last nodes₀ ends₀ tally₀ k₀ used walked nodes ends tally k =
     Looping n points smaller larger rule used₀ walked₀ nodes₀ ends₀ used walked nodes ends tally k
 
 abbrev μ-loop : tie.MeasureT-loop
-μ-loop points n smaller larger used₀ walked₀ rule nodes₀ ends₀ last tally₀ k₀ used walked nodes ends tally k = length smaller - k
+μ-loop points n smaller larger rule used₀ walked₀ last nodes₀ ends₀ tally₀ k₀ used walked nodes ends tally k = length smaller - k
 
 last-edges-requires : tie.Need-last-edges-requires Inv-loop μ-loop
 last-edges-requires c κs =
     let s = c .before .before .before .before .before .before .before .before .before in
-    let m = edges-length (s .args .smaller .now) (s .args .larger .now) (s .pre .0 .ends .same) in (
-      s .pre .0 .ends .same,
+    let m = edges-length (s .args .smaller .now) (s .args .larger .now) (s .pre .0 .graph .same) in (
+      s .pre .0 .graph .same,
       omega (arith, s .pre .1 .few),
-      λ k h. let w = s .pre .0 .ends .within k h in omega (arith, s .pre .3),
-      λ k h. let w = s .pre .0 .ends .within k (omega (arith, s .pre .0 .ends .same)) in omega (arith, s .pre .3),
+      λ k h. let w = s .pre .0 .graph .within k h in omega (arith, s .pre .3),
+      λ k h. let w = s .pre .0 .graph .within k (omega (arith, s .pre .0 .graph .same)) in omega (arith, s .pre .3),
       s .pre .4,
     )
 
 loop-holds : tie.Need-loop-holds Inv-loop μ-loop
 loop-holds c =
     let s = c .before .before .before .before .before .before .before .before .before .before .before .before in
-    looping-start (s .pre .0 .ends .same) (s .pre .2)
+    looping-start (s .pre .0 .graph .same) (s .pre .2)
 
 stitch-from-requires : tie.Need-stitch-from-requires Inv-loop μ-loop
 stitch-from-requires c κs =
@@ -52,7 +52,7 @@ add-k c =
       arith,
       c .before .before .before .before .before .before .before .before .before .before .before .before .before .before .loop-test .taken,
       s .pre .1 .few,
-      edges-length (s .args .smaller .now) (s .args .larger .now) (s .pre .0 .ends .same),
+      edges-length (s .args .smaller .now) (s .args .larger .now) (s .pre .0 .graph .same),
     )
 
 loop-less : tie.Need-loop-less Inv-loop μ-loop
@@ -72,7 +72,7 @@ loop-again c =
     let f = c .before .before .before .before .before .before .before .before .stitch-from in
     looping-step (l .inv) (s .pre .0) (s .pre .1)
     (c .before .before .before .before .before .before .before .before .before .before .before .before .before .before .loop-test .taken)
-    (f .kept .1 .1 .1 .1 .0) (f .kept .1 .1 .1 .1 .1 .0) (f .kept .1 .1 .1 .1 .1 .1 .1 .0) (f .kept .1 .1 .1 .1 .1 .1 .1 .1 .0) (f .ensures)
+    (f .kept .1 .1 .1 .1 .1 .1 .1 .0) (f .kept .1 .1 .1 .1 .1 .1 .1 .1 .0) (f .kept .1 .1 .1 .1 .1 .1 .1 .1 .1 .0) (f .kept .1 .1 .1 .1 .1 .1 .1 .1 .1 .1 .0) (f .ensures)
 
 same-length : tie.Need-same-length Inv-loop μ-loop
 same-length c = c .before .loop .inv .marks
@@ -81,13 +81,13 @@ same-length-2 : tie.Need-same-length-2 Inv-loop μ-loop
 same-length-2 c = c .before .loop .inv .walked-length
 
 same-length-3 : tie.Need-same-length-3 Inv-loop μ-loop
-same-length-3 c = c .before .loop .inv .nodes-length
+same-length-3 c = search needs
 
 same-length-4 : tie.Need-same-length-4 Inv-loop μ-loop
-same-length-4 c = c .before .loop .inv .ends-length′
+same-length-4 c = c .before .loop .inv .nodes-length
 
 same-length-5 : tie.Need-same-length-5 Inv-loop μ-loop
-same-length-5 c = search needs
+same-length-5 c = c .before .loop .inv .ends-length′
 
 returns : tie.Need-returns Inv-loop μ-loop
 returns c =

@@ -20,7 +20,7 @@ slice-read-if1 : tie.Need-slice-read-if1
 slice-read-if1 c = search needs
 
 walked-room : (s : tie.Start) → length (s .args .smaller .now) < length (s .args .walked .now)
-walked-room s = omega (arith, edges-length (s .args .smaller .now) (s .args .larger .now) (s .pre .0 .ends .same), s .pre .1 .walked-room)
+walked-room s = omega (arith, edges-length (s .args .smaller .now) (s .args .larger .now) (s .pre .0 .graph .same), s .pre .1 .walked-room)
 
 -- after the walk: the entry, and that edge k was free
 abbrev entry : tie.After-walk → tie.Start
@@ -68,10 +68,10 @@ finish-requires c κs =
     finishing (s .args .k) (s .pre .0) (s .pre .1) (s .pre .3) (s .pre .2) (free a) (a .walk .ensures)
 
 same-length : tie.Need-same-length
-same-length c = c .before .before .before .before .before .before .before .before .before .before .before .before .walk .kept .1 .1 .1 .1 .0
+same-length c = c .before .before .before .before .before .before .before .before .before .before .before .before .walk .kept .1 .1 .1 .1 .1 .1 .0
 
 same-length-2 : tie.Need-same-length-2
-same-length-2 c = c .before .before .before .before .before .before .before .before .before .before .before .before .walk .kept .1 .1 .1 .1 .1 .0
+same-length-2 c = c .before .before .before .before .before .before .before .before .before .before .before .before .walk .kept .1 .1 .1 .1 .1 .1 .1 .0
 
 same-length-3 : tie.Need-same-length-3
 same-length-3 c = c .before .before .before .before .finish .kept .1 .1 .1 .1 .1 .0

@@ -15,14 +15,14 @@ entry a = a .before .before .before .before .before .before .before .before .bef
 fit : (a : tie.After-weld)
     → let g = entry a .args in
     let f = a .weld in
-    Walkable (f .result .points) (f .result .edges) (f .last .1 .1 .0) (f .last .1 .1 .1 .0) (f .last .1 .1 .1 .1 .0) (g .used .now)
+    Walkable (f .result .points) (f .result .edges) (f .last .1 .1 .1 .0) (f .last .1 .1 .1 .1 .0) (f .last .1 .1 .1 .1 .1 .0) (g .used .now)
     (g .walked .now) (g .nodes .now) (g .ends .now)
 fit a =
     let g = entry a .args in
     let f = a .weld in
-    walkable (g .rule) (f .ensures) (entry a .pre .0) (f .kept .1 .1 .0)
-    (f .kept .1 .1 .1 .0 ∙ entry a .pre .1 .same ∙ sym (f .kept .1 .1 .1 .1 .0))
-    (omega (arith, f .kept .1 .1 .1 .0, entry a .pre .1 .for-edges)) (g .used .now) (g .walked .now) (entry a .pre .1 .unmarked) (entry a .pre .1 .for-walk)
+    walkable (g .rule) (f .ensures) (entry a .pre .0) (f .kept .1 .1 .1 .0)
+    (f .kept .1 .1 .1 .1 .0 ∙ entry a .pre .1 .same ∙ sym (f .kept .1 .1 .1 .1 .1 .0))
+    (omega (arith, f .kept .1 .1 .1 .1 .0, entry a .pre .1 .for-edges)) (g .used .now) (g .walked .now) (entry a .pre .1 .unmarked) (entry a .pre .1 .for-walk)
 
 weld-requires : tie.Need-weld-requires
 weld-requires c κs = search needs
@@ -58,25 +58,25 @@ stitch-edges-requires c κs =
     )
 
 same-length : tie.Need-same-length
-same-length c = c .before .before .before .before .before .before .before .before .before .before .before .before .before .before .before .before .before .before .before .before .before .before .before .before .before .before .weld .kept .1 .1 .0
+same-length c = c .before .before .before .before .before .before .before .before .before .before .before .before .before .before .before .before .before .before .before .before .before .before .before .before .before .before .weld .kept .1 .1 .1 .1 .0
 
 same-length-2 : tie.Need-same-length-2
-same-length-2 c = c .before .before .before .before .before .before .before .before .before .before .before .stitch-edges .kept .1 .1 .1 .1 .1 .1 .1 .0
+same-length-2 c = c .before .before .before .before .before .before .before .before .before .before .before .before .before .before .before .before .before .before .before .before .before .before .before .before .before .before .weld .kept .1 .1 .1 .1 .1 .0
 
 same-length-3 : tie.Need-same-length-3
-same-length-3 c = c .before .before .before .before .before .before .before .before .before .before .before .stitch-edges .kept .1 .1 .1 .1 .1 .1 .1 .1 .0
+same-length-3 c = search needs
 
 same-length-4 : tie.Need-same-length-4
-same-length-4 c = c .before .before .before .before .before .before .before .before .before .before .before .before .before .before .before .before .before .before .before .before .before .before .before .before .before .before .weld .kept .1 .1 .1 .0
+same-length-4 c = c .before .before .before .before .before .before .before .before .before .before .before .stitch-edges .kept .1 .1 .1 .1 .1 .1 .0
 
 same-length-5 : tie.Need-same-length-5
-same-length-5 c = c .before .before .before .before .before .before .before .before .before .before .before .before .before .before .before .before .before .before .before .before .before .before .before .before .before .before .weld .kept .1 .1 .1 .1 .0
+same-length-5 c = c .before .before .before .before .before .before .before .before .before .before .before .stitch-edges .kept .1 .1 .1 .1 .1 .1 .1 .0
 
 same-length-6 : tie.Need-same-length-6
-same-length-6 c = search needs
+same-length-6 c = c .before .before .before .before .before .before .before .before .before .before .before .before .before .before .before .before .before .before .before .before .before .before .before .before .before .before .weld .kept .1 .1 .1 .0
 
 same-length-7 : tie.Need-same-length-7
-same-length-7 c = c .before .before .before .before .before .before .before .before .before .before .before .stitch-edges .kept .1 .1 .1 .1 .1 .0
+same-length-7 c = c .before .before .before .before .before .before .before .before .before .before .before .stitch-edges .kept .1 .1 .1 .1 .1 .1 .1 .1 .0
 
 same-length-8 : tie.Need-same-length-8
 same-length-8 c = c .before .before .before .before .before .before .before .before .before .before .before .stitch-edges .kept .1 .1 .1 .1 .1 .1 .1 .1 .1 .0
@@ -86,9 +86,9 @@ returns c =
     let a = (c .before .before .before .before .before .before .before .before .before .before .before .before .before .before .before .before .before .before .before .before .before .before .before .before .before .before) in
     let g = entry a .args in
     let f = a .weld in
-    stitches (g .rule) (f .ensures) (entry a .pre .0) (f .kept .1 .1 .0)
-    (f .kept .1 .1 .1 .0 ∙ entry a .pre .1 .same ∙ sym (f .kept .1 .1 .1 .1 .0))
-    (omega (arith, f .kept .1 .1 .1 .0, entry a .pre .1 .for-edges)) (c .before .before .before .before .before .before .before .before .before .before .before .stitch-edges .result) _ _ (c .before .before .before .before .before .before .before .before .before .before .before .stitch-edges .ensures)
+    stitches (g .rule) (f .ensures) (entry a .pre .0) (f .kept .1 .1 .1 .0)
+    (f .kept .1 .1 .1 .1 .0 ∙ entry a .pre .1 .same ∙ sym (f .kept .1 .1 .1 .1 .1 .0))
+    (omega (arith, f .kept .1 .1 .1 .1 .0, entry a .pre .1 .for-edges)) (c .before .before .before .before .before .before .before .before .before .before .before .stitch-edges .result) _ _ (c .before .before .before .before .before .before .before .before .before .before .before .stitch-edges .ensures)
 
 pub stitch-within-spec : {M : Type 1} → statement M
 stitch-within-spec =

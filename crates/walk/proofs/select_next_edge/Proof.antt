@@ -14,7 +14,7 @@ use Rattle.walk.proofs.select_next_edge.Tie as tie
 
 -- as many edges as smaller points
 count : (s : tie.Start) → length (edgesOf (s .args .smaller .now) (s .args .larger .now)) ≡ length (s .args .smaller .now)
-count s = edges-length (s .args .smaller .now) (s .args .larger .now) (s .pre .0 .ends .same)
+count s = edges-length (s .args .smaller .now) (s .args .larger .now) (s .pre .0 .graph .same)
 
 first-available-requires : tie.Need-first-available-requires
 first-available-requires c κs = search needs
@@ -32,7 +32,7 @@ add-first-available c =
 
 first-available-requires-2 : tie.Need-first-available-requires-2
 first-available-requires-2 c κs = (
-  c .before .before .before .before .before .before .pre .0 .ends .same,
+  c .before .before .before .before .before .before .pre .0 .graph .same,
   c .before .before .before .before .before .before .pre .0
       .marks,
   omega

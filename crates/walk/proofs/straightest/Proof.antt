@@ -25,13 +25,13 @@ abbrev μ-loop : tie.MeasureT-loop
 μ-loop points n smaller larger used arrival available best₀ k₀ best k = length smaller - k
 
 cosine-along-requires : tie.Need-cosine-along-requires Inv-loop μ-loop
-cosine-along-requires c κs = (c .before .before .before .before .pre .0 .ends, c .before .before .before .before .pre .1)
+cosine-along-requires c κs = (c .before .before .before .before .pre .0 .graph, c .before .before .before .before .pre .1)
 
 loop-holds : tie.Need-loop-holds Inv-loop μ-loop
 loop-holds c = (omega (arith, c .before .before .before .before .before .pre .2), rw (c .cosine-along .ensures))
 
 cosine-along-requires-2 : tie.Need-cosine-along-requires-2 Inv-loop μ-loop
-cosine-along-requires-2 c κs = (c .before .before .before .before .before .before .before .pre .0 .ends, c .loop-test .taken)
+cosine-along-requires-2 c κs = (c .before .before .before .before .before .before .before .pre .0 .graph, c .loop-test .taken)
 
 or-requires : tie.Need-or-requires Inv-loop μ-loop
 or-requires c κs = search needs
@@ -41,7 +41,7 @@ add-first-available c = omega arith
 
 first-available-requires : tie.Need-first-available-requires Inv-loop μ-loop
 first-available-requires c κs = (
-  c .before .before .before .before .before .before .before .before .before .pre .0 .ends .same,
+  c .before .before .before .before .before .before .before .before .before .pre .0 .graph .same,
   c .before .before .before .before
       .before .before .before .before .before .pre .0 .marks,
   omega arith,
@@ -58,7 +58,7 @@ loop-again c =
     let g = s .args in
     let l = c .before .before .before .before .loop in
     let es = edgesOf (g .smaller .now) (g .larger .now) in
-    let m = edges-length (g .smaller .now) (g .larger .now) (s .pre .0 .ends .same) in (
+    let m = edges-length (g .smaller .now) (g .larger .now) (s .pre .0 .graph .same) in (
       omega (arith, c .first-available .ensures .inside),
       seek-step (cosineFor (g .arrival) (rows 2 (g .n) (g .points .now)) es) (g .arrival .node) es (g .used .now) _ (l .k)
           (c .first-available .result)
@@ -74,7 +74,7 @@ returns c =
     let l = c .before .loop in
     let es = edgesOf (g .smaller .now) (g .larger .now) in
     let f = cosineFor (g .arrival) (rows 2 (g .n) (g .points .now)) es in
-    let m = edges-length (g .smaller .now) (g .larger .now) (s .pre .0 .ends .same) in
+    let m = edges-length (g .smaller .now) (g .larger .now) (s .pre .0 .graph .same) in
     sym (l .inv .1
     ∙ ap (straightest f (l .best .edge) (l .best .cosine))
     (ahead-none (g .arrival .node) es (g .used .now) (l .k) (omega (arith, c .loop-test .left)))

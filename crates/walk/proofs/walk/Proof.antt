@@ -17,13 +17,13 @@ use Rattle.walk.proofs.walk.Statement.{statement}
 use Rattle.walk.proofs.walk.Tie as tie
 
 abbrev Inv-loop : tie.InvT-loop
-Inv-loop points n smaller larger used₀ nodes₀ last start-edge start-node count₀ previous₀ current₀ used nodes count previous current =
+Inv-loop points n smaller larger last start-edge used₀ nodes₀ start-node count₀ previous₀ current₀ used nodes count previous current =
     Going n points smaller larger start-node
     (whole (rows 2 n points) (edgesOf smaller larger) start-node start-edge current₀ used₀) (length nodes₀) used nodes count previous
     current
 
 abbrev μ-loop : tie.MeasureT-loop
-μ-loop points n smaller larger used₀ nodes₀ last start-edge start-node count₀ previous₀ current₀ used nodes count previous current =
+μ-loop points n smaller larger last start-edge used₀ nodes₀ start-node count₀ previous₀ current₀ used nodes count previous current =
     unused used
 
 -- the walk, and the length of its buffer after the first store
@@ -65,7 +65,7 @@ inside : (c : tie.After-known-told Inv-loop μ-loop) → taken c < length (entry
 inside c =
     let s = entry (turn c) in
     let l = turn c .loop in
-    free-in (l .inv) (s .pre .0 .ends) (fits s) (chosen c)
+    free-in (l .inv) (s .pre .0 .graph) (fits s) (chosen c)
 
 -- no edge is left to choose
 none-left : (c : tie.After-enum-told Inv-loop μ-loop) → choice (c .before .before .before .before .before .before) ≡ next.Nothing
@@ -87,7 +87,7 @@ mul-current : tie.Need-mul-current Inv-loop μ-loop
 mul-current c = omega arith
 
 shared-slice-read-current : tie.Need-shared-slice-read-current Inv-loop μ-loop
-shared-slice-read-current c = omega (arith, c .before .before .before .before .before .before .before .before .pre .0 .ends .same)
+shared-slice-read-current c = omega (arith, c .before .before .before .before .before .before .before .before .pre .0 .graph .same)
 
 loop-holds : tie.Need-loop-holds Inv-loop μ-loop
 loop-holds c =
@@ -106,7 +106,7 @@ slice-write-nodes-2 : tie.Need-slice-write-nodes-2 Inv-loop μ-loop
 slice-write-nodes-2 c =
     let s = c .before .before .before .before .before .before .before .before .before .before in
     let l = c .before .loop in
-    in-buffer (l .inv) (s .pre .0 .ends) (fits s)
+    in-buffer (l .inv) (s .pre .0 .graph) (fits s)
 
 end-at-requires : tie.Need-end-at-requires Inv-loop μ-loop
 end-at-requires c κs =
@@ -124,14 +124,14 @@ end-in c =
       s .pre .1,
       s .pre .5 .inside (L .loop .current),
       c .before .end-at .ensures,
-      edges-length (s .args .smaller .now) (s .args .larger .now) (s .pre .0 .ends .same),
+      edges-length (s .args .smaller .now) (s .args .larger .now) (s .pre .0 .graph .same),
     )
 
 select-next-edge-requires : tie.Need-select-next-edge-requires Inv-loop μ-loop
 select-next-edge-requires c κs =
     let s = c .before .before .before .before .before .before .before .before .before .before .before .before in
     let l = c .before .before .before .loop in (
-      marked (l .inv) (s .pre .0 .ends) (fits s),
+      marked (l .inv) (s .pre .0 .graph) (fits s),
       l .inv .p-in,
       l .inv .c-in,
       end-in c,
@@ -164,8 +164,8 @@ returns c =
     let s = c .before .before .before .before .before .before .before .before .before .before .before .before .before .before .before in
     let g = s .args in
     let l = c .before .before .before .before .before .before .loop in
-    went-as (walk-is (rows 2 (g .n) (g .points .now)) (g .smaller .now) (g .larger .now) (g .start-edge) (g .used .now) (s .pre .0 .ends .same))
-    (going-open (l .inv) (s .pre .0 .ends) (fits s)
+    went-as (walk-is (rows 2 (g .n) (g .points .now)) (g .smaller .now) (g .larger .now) (g .start-edge) (g .used .now) (s .pre .0 .graph .same))
+    (going-open (l .inv) (s .pre .0 .graph) (fits s)
     (c .before .before .before .before .before .loop-test .taken)
     (none-left c))
 
@@ -184,7 +184,7 @@ mul-other-end-2 c =
       arith,
       inside (c .before),
       c .before .before .before .before .before .before .before .before .before .before .before .before .before .before .before .before
-          .before .pre .0 .ends .same,
+          .before .pre .0 .graph .same,
     )
 
 shared-slice-read-other-end-2 : tie.Need-shared-slice-read-other-end-2 Inv-loop μ-loop
@@ -193,7 +193,7 @@ shared-slice-read-other-end-2 c =
       arith,
       inside (c .before .before),
       c .before .before .before .before .before .before .before .before .before .before .before .before .before .before .before .before
-          .before .before .pre .0 .ends .same,
+          .before .before .pre .0 .graph .same,
     )
 
 other-end-requires : tie.Need-other-end-requires Inv-loop μ-loop
@@ -208,7 +208,7 @@ loop-less c =
     c .before .before .before .before .before .before .before .before .before .before .before .before .before .before .before .before
     .before .before .before in
     let l = c .before .before .before .before .before .before .before .before .before .before .loop in
-    fewer (l .inv) (s .pre .0 .ends) (fits s)
+    fewer (l .inv) (s .pre .0 .graph) (fits s)
     (chosen (c .before .before .before))
 
 loop-again : tie.Need-loop-again Inv-loop μ-loop
@@ -217,7 +217,7 @@ loop-again c =
     c .before .before .before .before .before .before .before .before .before .before .before .before .before .before .before .before
     .before .before .before in
     let l = c .before .before .before .before .before .before .before .before .before .before .loop in
-    going-step (l .inv) (s .pre .0 .ends) (fits s)
+    going-step (l .inv) (s .pre .0 .graph) (fits s)
     (chosen (c .before .before .before))
     (c .before .before .before .before .before .before .before .before .before .loop-test .taken) (c .other-end .ensures)
 
@@ -234,8 +234,8 @@ returns-2 c =
     let s = c .before .before .before .before .before .before .before .before .before .before in
     let g = s .args in
     let l = c .before .loop in
-    went-as (walk-is (rows 2 (g .n) (g .points .now)) (g .smaller .now) (g .larger .now) (g .start-edge) (g .used .now) (s .pre .0 .ends .same))
-    (going-closed (l .inv) (s .pre .0 .ends) (fits s)
+    went-as (walk-is (rows 2 (g .n) (g .points .now)) (g .smaller .now) (g .larger .now) (g .start-edge) (g .used .now) (s .pre .0 .graph .same))
+    (going-closed (l .inv) (s .pre .0 .graph) (fits s)
     (c .loop-test .left))
 
 pub walk-spec : {M : Type 1} → statement M

@@ -8,11 +8,11 @@ use Rattle.weld.proofs.weld.Statement.{statement}
 use Rattle.weld.proofs.weld.Tie as tie
 
 abbrev Inv-loop : tie.InvT-loop
-Inv-loop segments s points₀ smaller₀ larger₀ tol2 welded₀ i₀ points smaller larger welded i =
+Inv-loop segments s tol2 points₀ smaller₀ larger₀ welded₀ i₀ points smaller larger welded i =
     Welding tol2 segments s points₀ (length smaller₀) i (welded .points) (welded .edges) points smaller larger
 
 abbrev μ-loop : tie.MeasureT-loop
-μ-loop segments s points₀ smaller₀ larger₀ tol2 welded₀ i₀ points smaller larger welded i = s - i
+μ-loop segments s tol2 points₀ smaller₀ larger₀ welded₀ i₀ points smaller larger welded i = s - i
 
 loop-holds : tie.Need-loop-holds Inv-loop μ-loop
 loop-holds c = welding-start (c .before .before .before .before .pre .alike)
@@ -30,7 +30,7 @@ loop-again : tie.Need-loop-again Inv-loop μ-loop
 loop-again c =
     let w = c .before .before .before .before .before .before .weld-segment in
     let l = c .before .before .before .before .before .before .before .before .before .before in
-    welding-step (l .before .loop .inv) (l .loop-test .taken) (w .ensures) (w .kept .1 .1 .0) (w .kept .1 .1 .1 .0) (w .kept .1 .1 .1 .1 .0)
+    welding-step (l .before .loop .inv) (l .loop-test .taken) (w .ensures) (w .kept .1 .1 .1 .0) (w .kept .1 .1 .1 .1 .0) (w .kept .1 .1 .1 .1 .1 .0)
 
 same-length : tie.Need-same-length Inv-loop μ-loop
 same-length c = c .before .loop .inv .points-room

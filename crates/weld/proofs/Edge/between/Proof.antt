@@ -1,10 +1,10 @@
--- `weld::Ends::between` meets its contract. Assumes nothing.
+-- `weld::Edge::between` meets its contract. Assumes nothing.
 use mathlib.Core.Path.{_∙_}
 use native.Mathlib.Omega.{arith}
 use Rattle.weld.proofs.Edges.{between-sym}
 use Rattle.weld.proofs.Lists.{in-order}
-use Rattle.weld.proofs.Ends.between.Statement.{statement}
-use Rattle.weld.proofs.Ends.between.Tie as tie
+use Rattle.weld.proofs.Edge.between.Statement.{statement}
+use Rattle.weld.proofs.Edge.between.Tie as tie
 
 returns : tie.Need-returns
 returns c = in-order (c .before .args .a) (c .before .args .b) (omega arith)

@@ -1,7 +1,7 @@
--- `weld::Ends::same` meets its contract. Assumes nothing.
+-- `weld::Edge::same` meets its contract. Assumes nothing.
 use borrow.Author.Tests.{eq-eqb, ne-eqb}
-use Rattle.weld.proofs.Ends.same.Statement.{statement}
-use Rattle.weld.proofs.Ends.same.Tie as tie
+use Rattle.weld.proofs.Edge.same.Statement.{statement}
+use Rattle.weld.proofs.Edge.same.Tie as tie
 
 returns : tie.Need-returns
 returns c = simp (ne-eqb _ _ (c .if1 .taken))
