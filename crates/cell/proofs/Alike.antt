@@ -10,10 +10,10 @@ use lib.ListN.{length, take, drop, length-map}
 use lib.Seq.{take-at, drop-at}
 use Rattle.rows.specs.Outcome.{found}
 use Rattle.rows.proofs.Outcomes.{never-both}
-use Rattle.cell.specs.Types.{spaceType, spaceCorners, planeType, planeCorners}
-use Rattle.cell.specs.Read.{corner, Typed, untyped, typed, readAs, typedInSpace, typedInPlane}
+use Rattle.cell.specs.Types.{spaceCorners, planeCorners}
+use Rattle.cell.specs.Read.{corner, Polygon, Typed, untyped, typed, readAs, typedInSpace, typedInPlane, numberedInSpace, numberedInPlane}
 use Rattle.cell.specs.Code.{below}
-use Rattle.cell.specs.Claims.{facesAs, Alike, AmongFirst, MidSidesFree, SpaceMidSidesFree, PlaneMidSidesFree, AlikeInSpace, AlikeInPlane}
+use Rattle.cell.specs.Claims.{facesAs, Alike, FirstDecide, MidSidesFree}
 use Rattle.cell.specs.declared.types.InSpace.the-variants as s
 use Rattle.cell.specs.declared.types.InPlane.the-variants as p
 use Rattle.cell.proofs.Inside.{among-corners}
@@ -48,13 +48,26 @@ module _ {A B : Type 0} (g : A → B) (h : A → B) where
 
 -- ---- the claims
 
-pub alike : (w : ℕ) (k : Typed) → Alike w k
+read-alike : (w : ℕ) (t : Typed) (c c′ : List ℕ) (xs xs′ : List Float) (ps ps′ : List Polygon) → readAs w t c xs ≡ found ps
+    → readAs w t c′ xs′ ≡ found ps′ → map length (facesAs t c) ≡ map length (facesAs t c′)
+    → map (corner w c xs) (flatten (facesAs t c)) ≡ map (corner w c′ xs′) (flatten (facesAs t c′)) → readAs w t c xs ≡ readAs w t c′ xs′
 unfolding readAs
-alike w untyped c c′ xs xs′ ps ps′ r r′ z = absurd (never-both r)
-alike w (typed n faces) c c′ xs xs′ ps ps′ r r′ z =
-    let a = passed w n faces c xs ps r .are in
-    let b = passed w n faces c′ xs′ ps′ r′ .are in
-    r ∙ ap found (a ∙ regroup (corner w c xs) (corner w c′ xs′) (faces c) (faces c′) (z .sizes) (z .coordinates) ∙ sym b) ∙ sym r′
+read-alike w untyped c c′ xs xs′ ps ps′ r r′ n z = absurd (never-both r)
+read-alike w (typed m faces) c c′ xs xs′ ps ps′ r r′ n z =
+    let a = passed w m faces c xs ps r .are in
+    let b = passed w m faces c′ xs′ ps′ r′ .are in
+    r ∙ ap found (a ∙ regroup (corner w c xs) (corner w c′ xs′) (faces c) (faces c′) n z ∙ sym b) ∙ sym r′
+
+pub alike : (w : ℕ) (tells : ℕ → Typed) → Alike w tells
+alike w tells k k′ ps ps′ r r′ z =
+    let e = ap (λ t. readAs w (tells t) (k′ .conn) (k′ .coords)) (z .cell-type) in
+    read-alike w (tells (k .cell-type)) (k .conn) (k′ .conn) (k .coords) (k′ .coords) ps ps′ r (e ∙ r′) (z .sizes) (z .coordinates) ∙ e
+
+pub alike-in-space : Alike 3 numberedInSpace
+alike-in-space = alike 3 numberedInSpace
+
+pub alike-in-plane : Alike 2 numberedInPlane
+alike-in-plane = alike 2 numberedInPlane
 
 same-below : (g h : ℕ → List Float) (n : ℕ) (ps : List ℕ) → T (below n ps) → ((p : ℕ) → p < n → g p ≡ h p) → map g ps ≡ map h ps
 unfolding below
@@ -64,30 +77,18 @@ same-below g h n (p ∷ ps) b e =
     ap (λ r. r ∷ map g ps) (e p k) ∙ ap (λ l. h p ∷ l) (same-below g h n ps (and-r (ltb p n) (below n ps) b) e)
 
 -- where the faces are the same and stand among the first nodes, those decide
-pub mid-sides-free : (w : ℕ) (k : Typed) (corners : ℕ → ℕ) → AmongFirst k corners → MidSidesFree w k corners
-mid-sides-free w k corners b c c′ xs xs′ ps ps′ r r′ f z =
-    alike w k c c′ xs xs′ ps ps′ r r′
-    (record {
-      sizes = ap (map length) f;
-      coordinates =
-          same-below (corner w c xs) (corner w c′ xs′) (corners (length c)) (flatten (facesAs k c)) (b c) z
-          ∙ ap (λ l. map (corner w c′ xs′) (flatten l)) f;
-    })
+first-decide : (w : ℕ) (k : Typed) (corners : ℕ → ℕ) → ((c : List ℕ) → T (below (corners (length c)) (flatten (facesAs k c))))
+    → FirstDecide w k corners
+first-decide w k corners b c c′ xs xs′ ps ps′ r r′ f z =
+    read-alike w k c c′ xs xs′ ps ps′ r r′ (ap (map length) f)
+    (same-below (corner w c xs) (corner w c′ xs′) (corners (length c)) (flatten (facesAs k c)) (b c) z
+    ∙ ap (λ l. map (corner w c′ xs′) (flatten l)) f)
 
-pub space-mid-sides-free : SpaceMidSidesFree
-space-mid-sides-free t = mid-sides-free 3 (typedInSpace (s.Known t)) (spaceCorners t) (among-corners t)
-
-pub plane-mid-sides-free : PlaneMidSidesFree
-plane-mid-sides-free t =
-    mid-sides-free 2 (typedInPlane (p.Known t)) (planeCorners t)
-    (λ c. polygon-below (planeCorners t (length c)) (planeCorners t (length c)) (omega arith))
-
-pub alike-in-space : AlikeInSpace
-alike-in-space k k′ ps ps′ r r′ z =
-    let e = ap (λ t. readAs 3 (typedInSpace (spaceType t)) (k′ .conn) (k′ .coords)) (z .cell-type) in
-    alike 3 (typedInSpace (spaceType (k .cell-type))) (k .conn) (k′ .conn) (k .coords) (k′ .coords) ps ps′ r (e ∙ r′) (z .corners) ∙ e
-
-pub alike-in-plane : AlikeInPlane
-alike-in-plane k k′ ps ps′ r r′ z =
-    let e = ap (λ t. readAs 2 (typedInPlane (planeType t)) (k′ .conn) (k′ .coords)) (z .cell-type) in
-    alike 2 (typedInPlane (planeType (k .cell-type))) (k .conn) (k′ .conn) (k .coords) (k′ .coords) ps ps′ r (e ∙ r′) (z .corners) ∙ e
+pub mid-sides-free : MidSidesFree
+mid-sides-free =
+    record {
+      in-space = λ t. first-decide 3 (typedInSpace (s.Known t)) (spaceCorners t) (among-corners t);
+      in-plane = λ t.
+          first-decide 2 (typedInPlane (p.Known t)) (planeCorners t)
+          (λ c. polygon-below (planeCorners t (length c)) (planeCorners t (length c)) (omega arith));
+    }

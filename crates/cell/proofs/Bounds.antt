@@ -7,7 +7,6 @@ use native.Mathlib.Omega.{arith}
 use borrow.Author.Tests.{eqb-true, leb-true, ltb-false}
 use lib.Dec.{eqb, ltb}
 use lib.ListN.{length, length-append}
-use Rattle.rows.specs.Outcome.{found}
 use Rattle.cell.specs.Types.{allow, spaceNumber, spaceType, spaceNodes, shapeOf, planeNodes, planeCorners}
 use Rattle.cell.specs.Faces.{Face, separator, onto, stretches, kept, facesOf, polygonOf}
 use Rattle.cell.specs.Read.{Polygon, Cell}

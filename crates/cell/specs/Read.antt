@@ -46,7 +46,7 @@ pub data Typed : Type 0 where
   untyped : Typed
   typed : Nodes → (List ℕ → List Face) → Typed
 
--- refusals 1 to 4 of document 01, then the polygons: 2 the node count, 3 the number of coordinates, 4 the corners
+-- refusals 1 to 4 of docs/RULES.md, then the polygons: 2 the node count, 3 the number of coordinates, 4 the corners
 unfoldable pub readAs : ℕ → Typed → List ℕ → List Float → Outcome (List Polygon)
 readAs w untyped c xs = refused 1
 readAs w (typed n faces) c xs =
@@ -72,12 +72,22 @@ pub record Cell : Type 0 where
 abbrev pub cell : ℕ → List ℕ → List Float → Cell
 cell t c xs = record { cell-type = t; conn = c; coords = xs }
 
--- the reading of a cell in space, and of one in the plane
+-- the reading of a cell of w coordinates a row, where `tells` is what a type number tells
+abbrev pub readCell : ℕ → (ℕ → Typed) → Cell → Outcome (List Polygon)
+readCell w tells k = readAs w (tells (k .cell-type)) (k .conn) (k .coords)
+
+-- in space, and in the plane
+abbrev pub numberedInSpace : ℕ → Typed
+numberedInSpace t = typedInSpace (spaceType t)
+
+abbrev pub numberedInPlane : ℕ → Typed
+numberedInPlane t = typedInPlane (planeType t)
+
 abbrev pub spaceCell : Cell → Outcome (List Polygon)
-spaceCell k = readAs 3 (typedInSpace (spaceType (k .cell-type))) (k .conn) (k .coords)
+spaceCell k = readCell 3 numberedInSpace k
 
 abbrev pub planeCell : Cell → Outcome (List Polygon)
-planeCell k = readAs 2 (typedInPlane (planeType (k .cell-type))) (k .conn) (k .coords)
+planeCell k = readCell 2 numberedInPlane k
 
 -- ---- a reading that refuses nothing
 
@@ -103,7 +113,7 @@ faceCount o = length (polygonsOf o)
 abbrev pub keptOf : List Polygon → Kept
 keptOf ps = record { corners = length (flatten ps); faces = length ps }
 
--- document 01's number and value for each case of the code's answer
+-- the number of docs/RULES.md and the value for each case of the code's answer
 abbrev pub readingTold : R.Reading → Outcome ℕ
 readingTold (r.Refused k) = refused k
 readingTold (r.Cell m) = found m

@@ -19,12 +19,10 @@ use Rattle.root.proofs.Steps.{four-is}
 abbrev pub mid : ℕ → ℕ → ℕ
 mid u b = (2 * b + 1) * (2 * b + 1) * u
 
--- q is the root of w / u rounded to nearest, ties to even: the half-way points below q are not above the root, those from q up are not
--- below it, and if one is the root, q is even
+-- q is the root of w / u rounded to nearest: the half-way points below q are not above the root, and those from q up are not below it
 pub record Rounds (w u q : ℕ) : Type 0 where
   pub below : (b : ℕ) → b < q → mid u b ≤ 4 * w
   pub above : (b : ℕ) → q ≤ b → 4 * w ≤ mid u b
-  pub tie : (b : ℕ) → 4 * w ≡ mid u b → q % 2 ≡ 0
 
 module _ (w u a : ℕ) (U : 0 < u) (lo : a * a * u ≤ w) (hi : w < (a + 1) * (a + 1) * u) where
   mid-le : (b c : ℕ) → b ≤ c → mid u b ≤ mid u c
@@ -41,36 +39,22 @@ module _ (w u a : ℕ) (U : 0 < u) (lo : a * a * u ≤ w) (hi : w < (a + 1) * (a
       let x : (2 * (a + 1)) * (2 * (a + 1)) * u ≤ (2 * b) * (2 * b) * u = mul-le-mul-right u (mul-le-mul (omega arith) (omega arith)) in
       omega arith
 
-  no : (x y : ℕ) → x < y → x ≡ y → ⊥
-  no x y h e = omega arith
-
   case-lt : 4 * w < mid u a → Rounds w u a
   case-lt h = record {
     below = λ b l. le-of-lt (under b l);
     above = λ b l. le-trans (le-of-lt h) (mid-le a b l);
-    tie = λ b e. absurd (side b e (lt-or-le b a));
   }
-    where
-      side : (b : ℕ) → 4 * w ≡ mid u b → (b < a) ⊎ (a ≤ b) → ⊥
-      side b e (inl l) = no (mid u b) (4 * w) (under b l) (sym e)
-      side b e (inr l) = no (4 * w) (mid u b) (lt-of-lt-of-le h (mid-le a b l)) e
 
   case-gt : mid u a < 4 * w → Rounds w u (suc a)
   case-gt h = record {
     below = λ b l. le-trans (mid-le b a (omega arith)) (le-of-lt h);
     above = λ b l. le-of-lt (over b l);
-    tie = λ b e. absurd (side b e (lt-or-le a b));
   }
-    where
-      side : (b : ℕ) → 4 * w ≡ mid u b → (a < b) ⊎ (b ≤ a) → ⊥
-      side b e (inl l) = no (4 * w) (mid u b) (over b l) e
-      side b e (inr l) = no (mid u b) (4 * w) (lt-of-le-of-lt (mid-le b a l) h) (sym e)
 
   case-eq : 4 * w ≡ mid u a → Rounds w u (a + a % 2)
   case-eq h = record {
     below = λ b l. le-trans (mid-le b a (omega arith)) (le-of-eq (sym h));
     above = λ b l. le-trans (le-of-eq h) (mid-le a b (omega arith));
-    tie = λ b e. omega arith;
   }
 
   pub rounded : Rounds w u (nearest a (compare (4 * w) (mid u a)))
