@@ -1,4 +1,4 @@
-//! Document 01's worked cases, each with the answer that the paper tells, written from its words.
+//! The rules' worked cases, each with the answer told there, written from its words.
 //!
 //! Case 12, two square roots, is no case of an entry that compares with the Rust: it stands in `roots`.
 
@@ -32,7 +32,7 @@ pub const NAMES: [&str; 14] = [
     "384 and 385 segments, PGON of 256 and 257",
 ];
 
-/// A case, its number in document 01, and its answer there.
+/// A case, its number in docs/RULES.md, and its answer there.
 #[derive(Clone)]
 pub struct Worked {
     pub number: usize,
@@ -45,7 +45,7 @@ pub fn roots() -> [(f64, f64); 2] {
     [(4.0, 2.0), (f64::from_bits(1), 2f64.powi(-537))]
 }
 
-/// The cases in exact buffers. Where document 01 leaves the order of points to its rules they follow from these.
+/// The cases in exact buffers. Where docs/RULES.md leaves the order of points to its rules they follow from these.
 pub fn worked() -> Vec<Worked> {
     let mut all = cut();
     all.extend(stitched());
@@ -138,7 +138,7 @@ fn stitched() -> Vec<Worked> {
     ]
 }
 
-/// Cases 11 and 13: a tolerance, and vectors that are too long, of no length, or infinite. Document 01 does not list
+/// Cases 11 and 13: a tolerance, and vectors that are too long, of no length, or infinite. docs/RULES.md does not list
 /// the last, which its rules settle: the direction's unit is (NaN, 0), and the normal's norm is NaN.
 fn placed() -> Vec<Worked> {
     let huge = [1e200, 0.0, 0.0];

@@ -1,4 +1,4 @@
-//! Writes what crates/replay reads: document 01's worked cases with the answers that the paper tells, what the Rust
+//! Writes what crates/replay reads: the rules' worked cases with the answers told there, what the Rust
 //! answers to some thousands of cases, refusals among them, the machine's square roots, and answers with one thing
 //! wrong. The format stands in compare/src/recorded.rs. Right answers are held against the linked entries first.
 

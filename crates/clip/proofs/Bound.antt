@@ -7,7 +7,6 @@ use native.Mathlib.Omega.{arith}
 use lib.Dec.{ltb}
 use lib.Ieee.{Float, le}
 use lib.ListN.{length, getD, take, length-append, length-map, length-take}
-use Rattle.vector.specs.Number.{f1, minusOne}
 use Rattle.vector.specs.Vector.{Vector, Frame, dist2}
 use Rattle.vector.specs.Rows.{Seg, seg}
 use Rattle.clip.specs.declared.Side.{Side}

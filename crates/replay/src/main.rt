@@ -1,5 +1,5 @@
-// Replays recorded answers. Standard input has groups of records: document 01's worked cases, each with the answer that
-// the paper tells; some thousands of answers of the Rust and of the machine's square root, for each entry; and answers
+// Replays recorded answers. Standard input has groups of records: the rules' worked cases, each with the answer
+// told there; some thousands of answers of the Rust and of the machine's square root, for each entry; and answers
 // with one thing wrong, which have to differ. For each group its name is printed, how many records it has, and how many
 // of them the entry answers otherwise.
 //

@@ -1,6 +1,5 @@
 -- `walk::walk` meets its contract. Assumes nothing.
 use mathlib.Core.Path.{_≡_, sym, _∙_}
-use mathlib.Core.Bool.{true}
 use Prim.Native.Nat.{ℕ, _≤_, _<_}
 use native.Mathlib.Omega.{arith}
 use borrow.Author.Needs.{needs}
@@ -10,8 +9,8 @@ use Rattle.weld.specs.Code.{edgesOf}
 use Rattle.weld.proofs.Lists.{edges-length}
 use Rattle.walk.specs.declared.Next.{Next}
 use Rattle.walk.specs.declared.Next.the-variants as next
-use Rattle.walk.specs.Walk.{nextEdge, Walk}
-use Rattle.walk.specs.Code.{unused, unused}
+use Rattle.walk.specs.Walk.{nextEdge}
+use Rattle.walk.specs.Code.{unused}
 use Rattle.walk.proofs.Walking.{Going, whole, walk-is, going-start, in-buffer, marked, free-in, fewer, going-step, going-open, going-closed, went-as}
 use Rattle.walk.proofs.walk.Statement.{statement}
 use Rattle.walk.proofs.walk.Tie as tie
@@ -26,15 +25,7 @@ abbrev μ-loop : tie.MeasureT-loop
 μ-loop points n smaller larger last start-edge used₀ nodes₀ start-node count₀ previous₀ current₀ used nodes count previous current =
     unused used
 
--- the walk, and the length of its buffer after the first store
-abbrev the-walk : tie.Start Inv-loop μ-loop → Walk
-the-walk s =
-    let g = s .args in
-    let k = g .start-edge in
-    whole (rows 2 (g .n) (g .points .now)) (edgesOf (g .smaller .now) (g .larger .now)) (getD (g .smaller .now) k 0) k
-    (getD (g .larger .now) k 0)
-    (set (g .used .now) k true)
-
+-- the length of its buffer after the first store
 abbrev room : tie.Start Inv-loop μ-loop → ℕ
 room s = length (set (s .args .nodes .now) 0 (getD (s .args .smaller .now) (s .args .start-edge) 0))
 

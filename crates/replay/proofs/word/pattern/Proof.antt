@@ -4,7 +4,6 @@ use mathlib.Core.Bool.{false, not}
 use lib.Dec.{T}
 use lib.Ieee.{Float, nan, inf, fin, isNan, ne}
 use lib.Ieee.Compare.{nan-differs}
-use borrow.Author.Needs.{needs}
 use Rattle.replay.proofs.word.pattern.Statement.{statement}
 use Rattle.replay.proofs.word.pattern.Tie as tie
 
