@@ -95,8 +95,9 @@ extern "C" {
  * Written: 2 * points to numbers, x and y of each point; nodes to nodes, the points of loop after loop,
  * counted from 0; loops to ends, the number of nodes up to and with each loop. Loop k has the nodes from
  * ends[k - 1] (0 for the first) up to but not with ends[k], at least three of them, each less than points.
- * They stand in the order walked, or all in reverse where the walk's rounded area is negative. So a loop
- * runs counter-clockwise but for rounding: a very thin one can have a negative rounded area both ways.
+ * They stand in the order walked, or all in reverse where the walk's rounded area is negative. So the area
+ * of a loop is positive but for rounding: a very thin one can have a negative rounded area both ways. A
+ * loop may meet itself at a point, and then a part of it may run clockwise.
  *
  * A listed edge joins two different points, and no two listed edges join the same two. One joins any two
  * cyclic neighbours in a loop, and none is used a second time in any loop.

@@ -23,7 +23,8 @@ class Loops:
     """The loops of a cut as the library gives them, and the account of every listed edge.
 
     Points are in the plane, from the origin of the calls. Loop k has the points nodes[ends[k - 1]:ends[k]] (from 0 for the
-    first), in the order walked, or reversed where the walk's rounded area is negative: counter-clockwise but for rounding.
+    first), in the order walked, or reversed where the walk's rounded area is negative. So its area is positive but for
+    rounding; where it meets itself at a point, a part of it may run clockwise.
     """
 
     points: np.ndarray

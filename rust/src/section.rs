@@ -41,8 +41,8 @@ impl Edges {
 
 impl Section {
     /// The nodes of each loop, at least three, in the order walked, or all in reverse where the walk's rounded area
-    /// is negative. So a loop runs counter-clockwise but for rounding: a very thin one can have a negative rounded
-    /// area both ways.
+    /// is negative. So the area of a loop is positive but for rounding: a very thin one can have a negative rounded
+    /// area both ways. A loop may meet itself at a point, and then a part of it may run clockwise.
     pub fn loops(&self) -> impl Iterator<Item = &[u32]> {
         let starts = std::iter::once(&0).chain(&self.ends);
         starts

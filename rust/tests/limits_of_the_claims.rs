@@ -20,6 +20,17 @@ fn a_reversed_loop_can_have_a_negative_area() {
     assert!(rounded_area(&corners) < 0. && rounded_area(&polygon) < 0.);
 }
 
+/// A loop of area 6 that meets itself: of its two parts, the triangle (0,0) (2,1) (2,-1) runs clockwise.
+#[test]
+fn a_part_of_a_loop_can_run_clockwise() {
+    let chain = [[-4., 2.], [0., 0.], [2., -1.], [2., 1.], [0., 0.], [-4., -2.], [-4., 2.]];
+    let sides: Vec<_> = chain.windows(2).map(|pair| [pair[0], pair[1]]).collect();
+    let section = stitch(&sides, 0.).unwrap();
+    assert_eq!(section.loops().collect::<Vec<_>>(), [[4, 1, 3, 2, 1, 0]]);
+    let polygon = section.polygons().next().unwrap();
+    assert_eq!((rounded_area(&polygon), rounded_area(&polygon[1..4])), (6., -2.));
+}
+
 /// The unit cube without its side x = 1, as a polyhedron: the section is open, and the line tells nothing of it.
 #[test]
 fn a_line_through_an_open_section_has_no_segment() {

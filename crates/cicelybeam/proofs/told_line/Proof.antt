@@ -1,4 +1,5 @@
 -- `told_line` meets its contract. Assumes nothing.
+use native.Mathlib.Omega.{arith}
 use mathlib.Core.Path.{ap, subst, sym}
 use Prim.Native.Nat.{_<_}
 use Rattle.cuts.specs.Lines.{lineTold}
@@ -17,7 +18,7 @@ enum-known-answer-2 c = search needs
 
 narrow-requires : tie.Need-narrow-requires
 narrow-requires c κs =
-    subst (λ a. lineTold a .segments < 4294967296) (c .before .answer2 .given .1) (c .before .before .before .pre)
+    omega (arith, subst (λ a. lineTold a .segments < 4294967296) (c .before .answer2 .given .1) (c .before .before .before .pre))
 
 returns : tie.Need-returns
 returns c =

@@ -1,5 +1,8 @@
 -- `clip::ratio` meets its contract. Assumes nothing.
-use lib.Ieee.{ofBits}
+use mathlib.Core.Path.{_≡_}
+use mathlib.Core.Bool.{true}
+use lib.Ieee.{lt, ofBits}
+use Rattle.vector.specs.Number.{least}
 use Rattle.clip.specs.Clip.{ratio}
 use borrow.Author.Needs.{needs}
 use Rattle.clip.proofs.ratio.Statement.{statement}
@@ -10,7 +13,9 @@ absolute-requires c κs = search needs
 
 returns : tie.Need-returns
 unfolding ratio ofBits
-returns c = rw (← c .before .absolute .ensures, c .if1 .taken)
+returns c =
+    let above : lt least (c .before .absolute .result) ≡ true = c .if1 .taken in
+    rw (← c .before .absolute .ensures, above)
 
 returns-2 : tie.Need-returns-2
 unfolding ratio ofBits
