@@ -14,14 +14,14 @@ ghost use Rattle.cell.specs.Code.{Copies, CopiesFaces, CopiesPolygon, PutsFaces,
 use types::{InPlane, InSpace, PlaneType, Shape, SpaceType};
 
 // What is read of a cell: the number of a refusal, or how many face corners are kept.
-#[derive(Drop)]
+#[derive(Clone, Copy)]
 pub enum Reading {
     Refused(u8),
     Cell(usize),
 }
 
 // How many face corners and faces are kept.
-#[derive(Drop)]
+#[derive(Clone, Copy)]
 pub struct Kept {
     pub corners: usize,
     pub faces: usize,

@@ -4,7 +4,7 @@ ghost use Rattle.cell.specs.Types.{allow, shape_numbered, shape_of, space_nodes,
 ghost use Rattle.cell.specs.Types.{corners_numbered, plane_corners, plane_nodes, plane_type};
 
 // How many nodes a type has.
-#[derive(Drop)]
+#[derive(Clone, Copy)]
 pub enum Nodes {
     Exactly(usize),
     AtMost(usize),
@@ -23,7 +23,7 @@ impl Nodes {
 }
 
 // The types of a cell in space.
-#[derive(Drop)]
+#[derive(Clone, Copy)]
 pub enum SpaceType {
     Tet4,
     Tet10,
@@ -35,14 +35,14 @@ pub enum SpaceType {
 }
 
 // What a type number stands for in space.
-#[derive(Drop)]
+#[derive(Clone, Copy)]
 pub enum InSpace {
     Known(SpaceType),
     Unknown,
 }
 
 // The types by their faces.
-#[derive(Drop)]
+#[derive(Clone, Copy)]
 pub enum Shape {
     Tet,
     Wedge,
@@ -139,7 +139,7 @@ impl SpaceType {
 }
 
 // The types of a cell in the plane.
-#[derive(Drop)]
+#[derive(Clone, Copy)]
 pub enum PlaneType {
     Tri3,
     Tri6,
@@ -151,7 +151,7 @@ pub enum PlaneType {
 }
 
 // What a type number stands for in the plane.
-#[derive(Drop)]
+#[derive(Clone, Copy)]
 pub enum InPlane {
     Known(PlaneType),
     Unknown,

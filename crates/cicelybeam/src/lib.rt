@@ -17,7 +17,7 @@ ghost use Rattle.cicelybeam.specs.Exports.{told_in, told_line_in, told_tolerance
 // struct cicelybeam_section: refusal 0, how many points, nodes and loops were written, and the four counts of edges; or the
 // number of a refusal, and 0 for all else. C's `open` is `opened` here, since `open` is a reserved word.
 #[repr(C)]
-#[derive(Drop)]
+#[derive(Clone, Copy)]
 pub struct Section {
     pub refusal: u32,
     pub points: u32,
@@ -31,7 +31,7 @@ pub struct Section {
 
 // struct cicelybeam_line: refusal 0 and how many segments were written, or the number of a refusal and 0.
 #[repr(C)]
-#[derive(Drop)]
+#[derive(Clone, Copy)]
 pub struct Line {
     pub refusal: u32,
     pub segments: u32,
@@ -39,7 +39,7 @@ pub struct Line {
 
 // struct cicelybeam_tolerance: refusal 0 and the tolerance, or the number of a refusal and 0.
 #[repr(C)]
-#[derive(Drop)]
+#[derive(Clone, Copy)]
 pub struct Tolerance {
     pub refusal: u32,
     pub value: f64,

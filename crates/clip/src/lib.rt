@@ -10,20 +10,20 @@ ghost use Rattle.clip.specs.Code.{next_of, side_of};
 use vector::absolute;
 
 // How many segments were written.
-#[derive(Drop)]
+#[derive(Clone, Copy)]
 pub struct Found {
     pub segments: usize,
 }
 
 // How many clipped points were written.
-#[derive(Drop)]
+#[derive(Clone, Copy)]
 pub struct Clipped {
     pub points: usize,
 }
 
 // The side of the cut that a polygon is clipped to, by the sign that makes its distances positive: 1 above, -1 below.
 // Neither, if no corner is above tol or below -tol, or if all are on one side.
-#[derive(Drop)]
+#[derive(Clone, Copy)]
 pub enum Side {
     Kept(f64),
     Neither,

@@ -11,7 +11,7 @@ use clip::{Clipped, Found, Side, both_at_most, count_if, next_of, ratio, side_of
 use vector::{Vec2, absolute, coord2, put2};
 
 // The line that cuts, by a point of it and its unit normal, and the tolerance of the tests.
-#[derive(Drop)]
+#[derive(Clone, Copy)]
 pub struct Cut {
     pub origin: Vec2,
     pub normal: Vec2,
@@ -19,7 +19,7 @@ pub struct Cut {
 }
 
 // The points that a directed edge gives when its polygon is clipped.
-#[derive(Drop)]
+#[derive(Clone, Copy)]
 pub enum Clip {
     Nothing,
     One(Vec2),
@@ -27,13 +27,13 @@ pub enum Clip {
 }
 
 // The point where a directed edge meets the cut.
-#[derive(Drop)]
+#[derive(Clone, Copy)]
 pub struct Crossing {
     pub point: Vec2,
 }
 
 // What a directed edge gives.
-#[derive(Drop)]
+#[derive(Clone, Copy)]
 pub struct Clipping {
     pub clip: Clip,
 }

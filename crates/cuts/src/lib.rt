@@ -14,21 +14,21 @@ use stitch::alone::Sectioned;
 use vector::{Placed, Plane, Vec3};
 
 // What the vector is that a cut is given by.
-#[derive(Drop)]
+#[derive(Clone, Copy)]
 pub enum Way {
     Normal,
     Direction,
 }
 
 // The number of a refusal, or the plane that cuts.
-#[derive(Drop)]
+#[derive(Clone, Copy)]
 pub enum Placing {
     Refused(u8),
     On(Plane),
 }
 
 // The number of a refusal, or the segments.
-#[derive(Drop)]
+#[derive(Clone, Copy)]
 pub enum Line {
     Refused(u8),
     Cut(Found),

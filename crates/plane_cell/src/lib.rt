@@ -101,7 +101,7 @@ fn cut_cell(
 }
 
 // The number of a refusal, or the line that cuts.
-#[derive(Drop)]
+#[derive(Clone, Copy)]
 enum Cutting {
     Refused(u8),
     By(Cut),

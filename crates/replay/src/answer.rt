@@ -2,7 +2,7 @@
 use cicelybeam::{Line, Section, Tolerance};
 
 // What an entry tells: refusal, points or segments, nodes, loops, and the four counts of edges; and a tolerance or a root.
-#[derive(Drop)]
+#[derive(Clone, Copy)]
 pub struct Answered {
     pub counts: [u32; 8],
     pub value: f64,

@@ -55,7 +55,7 @@ fn root_of(d: u64, j: u64) -> f64
 }
 
 // m * 2^52 * 4^k units of 2^-1074.
-#[derive(Drop)]
+#[derive(Clone, Copy)]
 struct Parts {
     m: u64,
     k: u64,

@@ -5,14 +5,14 @@ ghost use Rattle.stitch.specs.Entry.{Gave, buffers, lengths, room, section_told,
 use crate::{Stitched, stitch_segments};
 
 // The number of a refusal, or the section.
-#[derive(Drop)]
+#[derive(Clone, Copy)]
 pub enum Section {
     Refused(u8),
     Cut(Sectioned),
 }
 
 // How much was written and the counts of edges.
-#[derive(Drop)]
+#[derive(Clone, Copy)]
 pub struct Sectioned {
     pub stitched: Stitched,
 }

@@ -14,7 +14,7 @@ ghost use Rattle.stitch.specs.Code.{Wrote, edges_in};
 use walk::wide;
 
 // How many points, nodes and loops were written, and the counts of edges.
-#[derive(Drop)]
+#[derive(Clone, Copy)]
 pub struct Stitched {
     pub points: usize,
     pub nodes: usize,
@@ -23,7 +23,7 @@ pub struct Stitched {
 }
 
 // Edges: how many are listed, and how many of them are in walks that are loops, flat or open.
-#[derive(Drop)]
+#[derive(Clone, Copy)]
 pub struct Counts {
     pub listed: usize,
     pub in_loops: usize,
@@ -32,7 +32,7 @@ pub struct Counts {
 }
 
 // What a walk is.
-#[derive(Drop)]
+#[derive(Clone, Copy)]
 pub enum Kind {
     Loop,
     Flat,
@@ -62,7 +62,7 @@ impl Counts {
 }
 
 // What decides that a closed walk is a loop: the squared tolerance.
-#[derive(Drop)]
+#[derive(Clone, Copy)]
 pub struct Rule {
     pub tol2: f64,
 }
@@ -199,7 +199,7 @@ fn stitch_within(
 }
 
 // What the walks so far have given: the loops, and the counts of edges. Loops have as many nodes as edges.
-#[derive(Drop)]
+#[derive(Clone, Copy)]
 struct Tally {
     loops: usize,
     counts: Counts,

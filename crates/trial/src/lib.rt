@@ -120,7 +120,7 @@ fn plane_segments(
 
 // What stitching gives, and whether the lengths fitted.
 #[repr(C)]
-#[derive(Drop)]
+#[derive(Clone, Copy)]
 pub struct Answer {
     pub fitted: usize,
     pub points: usize,

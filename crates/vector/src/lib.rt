@@ -10,7 +10,7 @@ ghost use Rattle.vector.specs.Tolerance.{column, extent, greater, lesser, magnit
 ghost use Rattle.vector.specs.Tolerance.{told_tolerance, tolerance_of, tolerance_told};
 
 // A cutting plane: its origin, its unit normal and the two in-plane vectors.
-#[derive(Drop)]
+#[derive(Clone, Copy)]
 pub struct Plane {
     pub origin: Vec3,
     pub normal: Vec3,
@@ -19,14 +19,14 @@ pub struct Plane {
 }
 
 // A plane, or that a vector to be made unit has a norm that is not greater than 0.
-#[derive(Drop)]
+#[derive(Clone, Copy)]
 pub enum Placed {
     On(Plane),
     Nowhere,
 }
 
 // The in-plane vectors u and v, or that u has no unit.
-#[derive(Drop)]
+#[derive(Clone, Copy)]
 pub enum InPlane {
     Basis(Vec3, Vec3),
     Nowhere,
@@ -109,7 +109,7 @@ fn plane_basis(normal: Vec3) -> InPlane
 }
 
 // A point or a vector in space.
-#[derive(Drop)]
+#[derive(Clone, Copy)]
 pub struct Vec3 {
     pub x: f64,
     pub y: f64,
@@ -117,7 +117,7 @@ pub struct Vec3 {
 }
 
 // A unit vector, or a norm that is not greater than 0.
-#[derive(Drop)]
+#[derive(Clone, Copy)]
 pub enum Unit3 {
     Along(Vec3),
     Nowhere,
@@ -245,14 +245,14 @@ fn at_most_both(a: f64, b: f64, c: f64) -> bool
 }
 
 // A point or a vector in the plane.
-#[derive(Drop)]
+#[derive(Clone, Copy)]
 pub struct Vec2 {
     pub x: f64,
     pub y: f64,
 }
 
 // A unit vector, or a norm that is not greater than 0.
-#[derive(Drop)]
+#[derive(Clone, Copy)]
 pub enum Unit2 {
     Along(Vec2),
     Nowhere,
@@ -380,7 +380,7 @@ pub fn put2(xs: &mut [f64], i: usize, p: Vec2)
 }
 
 // The number of a refusal, or the tolerance.
-#[derive(Drop)]
+#[derive(Clone, Copy)]
 pub enum Tolerance {
     Refused(u8),
     Of(f64),

@@ -10,7 +10,7 @@ ghost use Rattle.walk.specs.Code.{ahead, better, cosine_for};
 use vector::Vec2;
 
 // What walking from an edge found: how many nodes, and whether it came back to its start.
-#[derive(Drop)]
+#[derive(Clone, Copy)]
 pub struct Walked {
     pub nodes: usize,
     pub closed: bool,
@@ -80,7 +80,7 @@ fn after(x: u16) -> usize
 }
 
 // The next edge of a walk, or that no unused edge is left.
-#[derive(Drop)]
+#[derive(Clone, Copy)]
 pub enum Next {
     Edge(usize),
     Nothing,
@@ -121,7 +121,7 @@ fn select_next_edge(
 }
 
 // The unused edges at a point: the first two of them, and the number from which on no edge is at that point.
-#[derive(Drop)]
+#[derive(Clone, Copy)]
 struct Available {
     first: usize,
     second: usize,
@@ -175,7 +175,7 @@ fn other_end(a: u32, b: u32, c: u32) -> u32
 }
 
 // A walk's arrival at a node: where that is, the step to it, and that step's norm.
-#[derive(Drop)]
+#[derive(Clone, Copy)]
 struct Arrival {
     node: u32,
     at: Vec2,
@@ -225,7 +225,7 @@ fn clamp(x: f64) -> f64
 }
 
 // The straightest edge so far, and its cosine.
-#[derive(Drop)]
+#[derive(Clone, Copy)]
 struct Best {
     edge: usize,
     cosine: f64,

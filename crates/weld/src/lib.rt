@@ -8,7 +8,7 @@ ghost use Rattle.weld.specs.Code.{Added, Became, SegmentWelded, Weldable, Welds,
 use vector::Vec2;
 
 // How many points and edges there are.
-#[derive(Drop)]
+#[derive(Clone, Copy)]
 pub struct Welded {
     pub points: usize,
     pub edges: usize,
@@ -76,7 +76,7 @@ fn weld_segment(
 }
 
 // The number of the point that a coordinate became, and how many points there are then.
-#[derive(Drop)]
+#[derive(Clone, Copy)]
 struct Pushed {
     place: u32,
     points: usize,
@@ -167,7 +167,7 @@ fn listed(smaller: &[u32], larger: &[u32], m: usize, e: Edge) -> bool
 }
 
 // An edge by its two points, smaller first.
-#[derive(Drop)]
+#[derive(Clone, Copy)]
 struct Edge {
     smaller: u32,
     larger: u32,
