@@ -1,0 +1,9 @@
+-- `put_faces` meets its contract. Assumes nothing.
+use Rattle.cell.proofs.Accepted.{copied}
+use borrow.Author.Rules.{rules}
+use Rattle.cell.proofs.put_faces.Goals as goal
+
+pub returns : goal.returns
+returns c =
+    let g = c.args in
+    record { puts = λ fs p t. copied g.conn.now g.coords.now fs _ _ p t _ _ _ _ c.copy_rows.ensures c.put.ensures }

@@ -1,0 +1,24 @@
+-- `clip_plane::polygon::alike` meets its contract. Written from clip_space's by tools/widths. Assumes nothing.
+use borrow.Author.Rules.{rules}
+use Rattle.clip_plane.proofs.polygon.alike.Goals as goal
+
+pub returns-then-both_at_most : goal.returns-then-both_at_most
+returns-then-both_at_most c =
+    rw (
+      ← c.dist2.ensures,
+      ← c.dist2-2.ensures,
+      ← c.both_at_most.ensures,
+      c.if-both_at_most.true,
+    )
+
+pub returns : goal.returns
+returns c =
+    rw (
+      ← c.dist2.ensures,
+      ← c.dist2-2.ensures,
+      ← c.both_at_most.ensures,
+      c.if-both_at_most.false,
+      ← c.dist2-3.ensures,
+      ← c.dist2-4.ensures,
+      ← c.both_at_most-2.ensures,
+    )

@@ -1,0 +1,38 @@
+-- `clip_plane::polygon::push_clip` meets its contract. Written from clip_space's by tools/widths. Assumes nothing.
+use native.Mathlib.Omega.{arith}
+use borrow.Author.Rules.{rules}
+use Rattle.vector.specs.View.{vec2}
+use Rattle.clip.proofs.Clipping.{push_none, push_one, push_two, pushed_at_most}
+use Rattle.clip_plane.proofs.polygon.push_clip.Goals as goal
+
+pub push_unique-requires : goal.push_unique-requires
+push_unique-requires c =
+    let h = rw c.in-One.is at c.requires in omega arith
+
+pub push_unique-k-requires : goal.push_unique-k-requires
+push_unique-k-requires c =
+    let h = rw c.in-Two.is at c.requires in omega arith
+
+pub push_unique-requires-in-Two : goal.push_unique-requires-in-Two
+push_unique-requires-in-Two c =
+    let two = c.clip-in-Two-1.given in
+    let first = c.push_unique-k in
+    let h = rw two.1 at c.requires in
+    omega (arith, pushed_at_most c.args.m _ (vec2 two.0.0) first.ensures, first.auto.0)
+
+pub returns-in-Nothing : goal.returns-in-Nothing
+returns-in-Nothing c =
+    let g = c.args in rw c.in-Nothing.is (push_none 2 g.points.now g.m g.tol2)
+
+pub returns-in-One : goal.returns-in-One
+returns-in-One c =
+    let one = c.clip-1.given in
+    rw one.1
+    (push_one c.args.m _ (vec2 one.0.0) c.push_unique.ensures)
+
+pub returns-in-Two : goal.returns-in-Two
+returns-in-Two c =
+    let two = c.clip-in-Two-1.given in
+    rw two.1
+    (push_two c.args.m _ (vec2 two.0.0) _
+    c.push_unique-k.ensures c.push_unique-in-Two.ensures)

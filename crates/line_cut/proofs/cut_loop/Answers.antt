@@ -1,0 +1,39 @@
+-- `cut_loop` meets its contract. Assumes nothing.
+use mathlib.Core.Path.{ap}
+use mathlib.Core.List.{◌++◌, map}
+use native.Mathlib.Omega.{arith}
+use Rattle.vector.specs.Rows.{rows, segs}
+use Rattle.vector.specs.View.{frame_of}
+use Rattle.line_cut.specs.LineCut.{segment_on_line}
+use Rattle.cuts.proofs.Answers.{segments_same}
+use Rattle.line_cut.proofs.LoopsCut.{loop_few, loop_segments_lem}
+use borrow.Author.Rules.{rules}
+use Rattle.line_cut.proofs.cut_loop.Goals as goal
+
+pub put_on_line-requires : goal.put_on_line-requires
+put_on_line-requires c =
+    let g = c.args in
+    let ps = rows 2 g.p g.points.now in
+    let h = loop_segments_lem g.tol ps g.nodes.now c.axis.ensures c.loop_points.ensures c.plane_section_segments-found.ensures.segments in
+    let few = loop_few g.tol ps g.nodes.now h in
+    let room = c.requires.0.for_flat in
+    (omega (arith, c.plane_section_segments-found.auto.1.1.1.0), omega (arith, c.requires.1))
+
+pub shape_of-polygon : goal.shape_of-polygon
+shape_of-polygon c = c.loop_points.auto.1.1.1.0
+
+pub shape_of-clipped : goal.shape_of-clipped
+shape_of-clipped c = c.plane_section_segments-found.auto.1.1.1.0
+
+pub shape_of-flat : goal.shape_of-flat
+shape_of-flat c = c.plane_section_segments-found.auto.1.1.1.1.0
+
+pub shape_of-numbers : goal.shape_of-numbers
+shape_of-numbers c = c.put_on_line.auto.1.1.1.0
+
+pub returns : goal.returns
+returns c =
+    let g = c.args in
+    let ps = rows 2 g.p g.points.now in
+    let h = loop_segments_lem g.tol ps g.nodes.now c.axis.ensures c.loop_points.ensures c.plane_section_segments-found.ensures.segments in
+    record { segments = segments_same (ap (λ l. segs 3 g.from g.numbers.now ++ map (segment_on_line (frame_of g.plane)) l) h.are) c.put_on_line.ensures }

@@ -1,0 +1,15 @@
+-- `put_on_line` meets its contract. Assumes nothing.
+use borrow.Author.Rules.{rules}
+use mathlib.Core.Path.{◌∙◌, refl}
+use Prim.Native.Nat.{◌-◌}
+use native.Mathlib.Omega.{arith}
+use Rattle.vector.specs.View.{frame_of}
+use Rattle.line_cut.specs.LineCut.{on_line, segment_on_line}
+use Rattle.clip.proofs.Carrying.{Carrying, carrying_end, carrying_start, carrying_step, by_ends}
+use Rattle.line_cut.proofs.put_on_line.Given as goal
+
+abbrev pub invariant-loop-i : goal.invariant-loop-i
+invariant-loop-i l = Carrying (segment_on_line (frame_of l.plane)) 2 3 l.k l.flat l.from l.initial.out l.i l.out
+
+abbrev pub decreases-loop-i : goal.decreases-loop-i
+decreases-loop-i l = l.k - l.i

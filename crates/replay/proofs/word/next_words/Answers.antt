@@ -1,0 +1,9 @@
+-- `replay::word::next_words` is safe: a store keeps the length. Assumes nothing.
+use Rattle.std.proofs.Common.{◌≡◌, ◌-◌, ◌≤◌, length, arith, length-set, length-take, rules}
+use Rattle.replay.proofs.word.next_words.Goals as goal
+
+pub loop-i-preserved : goal.loop-i-preserved
+loop-i-preserved c = simp length-set (omega arith)
+
+pub returns : goal.returns
+returns c = simp length-take (omega arith)

@@ -1,0 +1,16 @@
+-- `vector::Vec2::unit` meets its contract. Assumes nothing.
+use lib.Ieee.{of_bits}
+use Rattle.vector.specs.View.{vec2}
+use Rattle.vector.proofs.Unit.{unit_along, unit_nowhere}
+use borrow.Author.Rules.{rules}
+use Rattle.vector.proofs.Vec2.unit.Goals as goal
+
+pub returns-then-n : goal.returns-then-n
+unfolding of_bits
+returns-then-n c =
+    unit_along (vec2 c.args.self) _ _ c.dot.ensures c.sqrt-n.ensures c.if-n.true
+
+pub returns : goal.returns
+unfolding of_bits
+returns c =
+    unit_nowhere (vec2 c.args.self) _ _ c.dot.ensures c.sqrt-n.ensures c.if-n.false

@@ -1,0 +1,15 @@
+-- `vector::extent` meets its contract. Assumes nothing.
+use mathlib.Core.Path.{◌≡◌, refl, ap, ◌∙◌}
+use Prim.Native.Nat.{◌-◌, ◌≤◌}
+use native.Mathlib.Omega.{arith}
+use borrow.Author.Rules.{rules}
+use lib.Ieee.{of_bits}
+use Rattle.vector.specs.Tolerance as M
+use Rattle.vector.proofs.Passes.{extent_step}
+use Rattle.vector.proofs.extent.Given as goal
+
+abbrev pub invariant-loop-k : goal.invariant-loop-k
+invariant-loop-k l = (l.k ≤ l.w) × (l.e ≡ M.extent l.w l.xs l.k)
+
+abbrev pub decreases-loop-k : goal.decreases-loop-k
+decreases-loop-k l = l.w - l.k

@@ -1,0 +1,25 @@
+-- `vector::plane_basis` meets its contract. Assumes nothing.
+use mathlib.Core.Path.{◌≡◌, ap, sym, ◌∙◌}
+use Rattle.vector.specs.Vector.{Vector, basis, diff, lean, least_aligned_axis, scale, unit, with_u}
+use Rattle.vector.specs.View.{unit3, vec3}
+use borrow.Author.Rules.{rules}
+use Rattle.vector.proofs.plane_basis.Goals as goal
+use Rattle.vector.proofs.plane_basis.Goals.{After-unit}
+
+-- what `unit` is taken of
+u-is : (c : After-unit) → unit3 c.unit.result ≡ unit (lean (least_aligned_axis (vec3 c.args.normal)) (vec3 c.args.normal))
+u-is c =
+    let seed = c.least_aligned_axis-seed in
+    c.unit.ensures
+    ∙ ap unit (c.minus.ensures
+    ∙ ap (diff (vec3 seed.result)) (c.scaled.ensures ∙ ap (λ k. scale k (vec3 c.args.normal)) c.dot-d.ensures)
+    ∙ ap (λ s. lean s (vec3 c.args.normal)) seed.ensures)
+
+pub returns-in_default : goal.returns-in_default
+returns-in_default c =
+    ap (with_u (vec3 c.args.normal)) (ap unit3 (sym c.in_default.is) ∙ u-is (goal.at.returns-in_default c).After-unit)
+
+pub returns : goal.returns
+returns c =
+    let u = c.u-1.given in
+    ap (basis (vec3 u.0.0)) c.cross-v.ensures ∙ ap (with_u (vec3 c.args.normal)) (ap unit3 (sym u.1) ∙ u-is (goal.at.returns c).After-unit)

@@ -1,0 +1,16 @@
+-- `weld::add_edge` meets its contract. Assumes nothing.
+use mathlib.Core.Path.{◌∙◌, sym}
+use borrow.Author.Rules.{rules}
+use Rattle.weld.proofs.Lists.{added_new, added_none, added_old}
+use Rattle.weld.proofs.add_edge.Goals as goal
+
+pub returns-then-a-b : goal.returns-then-a-b
+returns-then-a-b c = added_none c.if-a-b.taken
+
+pub returns-then-known : goal.returns-then-known
+returns-then-known c =
+    added_old c.between-e.ensures c.if-a-b.left (sym c.known.ensures ∙ c.if-known.taken)
+
+pub returns : goal.returns
+returns c =
+    added_new c.between-e.ensures c.if-a-b.left (sym c.known.ensures ∙ c.if-known.left) c.requires.1 c.requires.0

@@ -1,0 +1,13 @@
+-- `weld::find` meets its contract. The invariant: none of the first k points is within. Assumes nothing.
+use Prim.Native.Nat.{◌-◌}
+use native.Mathlib.Omega.{arith}
+use borrow.Author.Rules.{rules}
+use Rattle.vector.specs.View.{vec2}
+use Rattle.weld.proofs.Points.{Finding, finding_end, finding_hit, finding_miss, finding_start}
+use Rattle.weld.proofs.find.Given as goal
+
+abbrev pub invariant-loop-k : goal.invariant-loop-k
+invariant-loop-k l = Finding 2 (vec2 l.p) l.tol2 l.n l.points l.k
+
+abbrev pub decreases-loop-k : goal.decreases-loop-k
+decreases-loop-k l = l.n - l.k

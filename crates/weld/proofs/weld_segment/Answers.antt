@@ -1,0 +1,15 @@
+-- `weld::weld_segment` meets its contract. Assumes nothing.
+use native.Mathlib.Omega.{arith}
+use borrow.Author.Rules.{rules}
+use Rattle.weld.proofs.Points.{became_few}
+use Rattle.weld.proofs.Welding.{joined}
+use Rattle.weld.proofs.weld_segment.Goals as goal
+
+pub push_coord-b-requires : goal.push_coord-b-requires
+push_coord-b-requires c =
+    let few = became_few c.push_coord-a.ensures in
+    omega (arith, c.requires, c.push_coord-a.auto.0)
+
+pub returns : goal.returns
+returns c =
+    rw (← c.coord2-p.ensures, ← c.coord2-q.ensures) (joined c.push_coord-a.ensures c.push_coord-b.ensures c.add_edge-m.ensures)
