@@ -7,9 +7,6 @@ use Rattle.cell.proofs.Polygon.{polygon_taken}
 use borrow.Author.Rules.{rules}
 use Rattle.cell.proofs.copy_polygon.Goals as goal
 
-pub slice_bounds-copy_rows-end-2 : goal.slice_bounds-copy_rows-end-2
-slice_bounds-copy_rows-end-2 c = sym (length-take-le c.args.n _ c.if-n-le4.true)
-
 pub copy_rows-requires : goal.copy_rows-requires
 unfolding from
 copy_rows-requires c = copies_at (polygon_taken c.args.n 4 _ refl c.if-n-le4.true) c.requires.copies

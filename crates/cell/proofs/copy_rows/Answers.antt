@@ -72,8 +72,8 @@ loop-j-smaller c = omega arith
 pub loop-j-preserved : goal.loop-j-preserved
 loop-j-preserved c =
     let l = c.loop-j in
-    filling_step _ _ _ _ _ l.out l.j l.invariant c.node.result _ c.copy.new.0 (omega arith) c.node.ensures (is_row (goal.at.loop-j-preserved c).After-node)
-    (row_is _ _ _ (is_row (goal.at.loop-j-preserved c).After-node)) c.copy.ensures c.copy.auto.0
+    filling_step _ _ _ _ _ l.out l.j l.invariant c.node.result _ c.copy.new.out (omega arith) c.node.ensures (is_row (goal.at.loop-j-preserved c).After-node)
+    (row_is _ _ _ (is_row (goal.at.loop-j-preserved c).After-node)) c.copy.ensures c.copy.auto.out
 
 pub shape_of-out : goal.shape_of-out
 shape_of-out c = c.loop-j.invariant.same

@@ -7,9 +7,6 @@ use Rattle.cell.proofs.Polygon.{listed_below, polygon_taken}
 use borrow.Author.Rules.{rules}
 use Rattle.cell.proofs.test_polygon.Goals as goal
 
-pub slice_bounds-test_corners-end-2 : goal.slice_bounds-test_corners-end-2
-slice_bounds-test_corners-end-2 c = sym (length-take-le c.args.n _ c.if-n-le4.true)
-
 pub test_corners-requires : goal.test_corners-requires
 unfolding from
 test_corners-requires c = listed_below _ c.args.n _ (polygon_taken _ 4 _ refl c.if-n-le4.true) c.requires.0

@@ -74,7 +74,7 @@ project_segments-k-requires c =
     let count =
     section_count 3 (cut_by (frame_of g.plane) g.tol) (get_or g.ends.now c.loop-i.i 0 - c.loop-i.s)
     (take (length g.coords.now - at) (drop at g.coords.now)) c.plane_section_segments-found.ensures.segments in (
-      omega (arith, count, face_space v.0 h, v.2, c.plane_section_segments-found.auto.1.1.1.1.0),
+      omega (arith, count, face_space v.0 h, v.2, c.plane_section_segments-found.auto.out.1.1.1.0),
       omega (arith, count, c.requires.2),
     )
 

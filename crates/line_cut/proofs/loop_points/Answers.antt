@@ -48,7 +48,7 @@ pub loop-i-preserved : goal.loop-i-preserved
 loop-i-preserved c =
     listing_step c.loop-i.invariant c.loop-i-test.true c.requires.2
     (point_is c.args.points.now c.args.p _ _ _ c.coord2.ensures c.wide-k.ensures (c.requires.1 c.loop-i.i c.loop-i-test.true))
-    refl c.put2.ensures c.put2.auto.0
+    refl c.put2.ensures c.put2.auto.xs
 
 pub shape_of-out : goal.shape_of-out
 shape_of-out c = c.loop-i.invariant.same_length

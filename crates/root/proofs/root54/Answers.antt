@@ -46,11 +46,11 @@ loop-i-preserved c =
     let m = c.args.m in (
       omega arith,
       ⊎_elim
-          (λ w. subst₂ (λ (q r : ℕ). Digits m (at.i + 1) (at.rest % 4503599627370496 * 4) q r) (sym w.1) (sym w.2)
-          (one m at.i at.rest at.q at.r at.invariant.1 w.0.taken))
-          (λ w. subst₂ (λ (q r : ℕ). Digits m (at.i + 1) (at.rest % 4503599627370496 * 4) q r) (sym w.1) (sym w.2)
-          (none m at.i at.rest at.q at.r at.invariant.1 w.0.left))
-          c.if-odd-next.branch,
+          (λ w. subst₂ (λ (q r : ℕ). Digits m (at.i + 1) (at.rest % 4503599627370496 * 4) q r) (sym w.q-is) (sym w.r-is)
+          (one m at.i at.rest at.q at.r at.invariant.1 w.if-odd-next.true))
+          (λ w. subst₂ (λ (q r : ℕ). Digits m (at.i + 1) (at.rest % 4503599627370496 * 4) q r) (sym w.q-is) (sym w.r-is)
+          (none m at.i at.rest at.q at.r at.invariant.1 w.if-odd-next.false))
+          c.if-odd-next.branch-raw,
     )
 
 pub returns : goal.returns

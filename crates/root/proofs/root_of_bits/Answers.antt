@@ -20,11 +20,10 @@ own b n e h = subst Own (sym e) h
 pub returns-then-b-eq9223372036854775808 : goal.returns-then-b-eq9223372036854775808
 returns-then-b-eq9223372036854775808 c =
     let b = c.args.b in
-    ⊎_elim (λ w. own b 0x8000_0000_0000_0000 w.taken at_minus_zero)
-    (⊎_elim (λ w. own b 0x7ff0_0000_0000_0000 (eqb-true _ _ w.1.taken) at_infinity)
-    (⊎_elim (λ w. own b 0 (eqb-true _ _ w.2.taken) at_nothing)
-    (λ w. own b 0x3ff0_0000_0000_0000 (eqb-true _ _ w.3.taken) at_one)))
-    c.then-b-eq9223372036854775808.branch
+    ⊎_elim (λ (h : b ≡ 0x8000_0000_0000_0000). own b _ h at_minus_zero)
+    (⊎_elim (λ (w : (b ≡ 0x8000_0000_0000_0000 → ⊥) × (b ≡ 0x7ff0_0000_0000_0000)). own b _ w.1 at_infinity)
+    (⊎_elim (λ w. own b 0 w.2 at_nothing) (λ w. own b 0x3ff0_0000_0000_0000 w.3 at_one)))
+    c.then-b-eq9223372036854775808.either
 
 -- below the tests b is the pattern of a finite value above zero
 low : (c : Else-b-eq-ONE) → (0 < c.args.b) × (c.args.b < 9218868437227405312)

@@ -44,25 +44,25 @@ stitch_edges-tally-requires c =
     )
 
 pub shape_of-smaller : goal.shape_of-smaller
-shape_of-smaller c = c.weld-w.auto.1.1.1.1.0
+shape_of-smaller c = c.weld-w.auto.smaller.1.1.1.0
 
 pub shape_of-larger : goal.shape_of-larger
-shape_of-larger c = c.weld-w.auto.1.1.1.1.1.0
+shape_of-larger c = c.weld-w.auto.smaller.1.1.1.1.0
 
 pub shape_of-walked : goal.shape_of-walked
-shape_of-walked c = c.stitch_edges-tally.auto.1.1.1.1.1.1.0
+shape_of-walked c = c.stitch_edges-tally.auto.walked.1.1.1.1.1.0
 
 pub shape_of-last : goal.shape_of-last
-shape_of-last c = c.stitch_edges-tally.auto.1.1.1.1.1.1.1.0
+shape_of-last c = c.stitch_edges-tally.auto.walked.1.1.1.1.1.1.0
 
 pub shape_of-numbers : goal.shape_of-numbers
-shape_of-numbers c = c.weld-w.auto.1.1.1.0
+shape_of-numbers c = c.weld-w.auto.smaller.1.1.0
 
 pub shape_of-nodes : goal.shape_of-nodes
-shape_of-nodes c = c.stitch_edges-tally.auto.1.1.1.1.1.1.1.1.0
+shape_of-nodes c = c.stitch_edges-tally.auto.walked.1.1.1.1.1.1.1.0
 
 pub shape_of-ends : goal.shape_of-ends
-shape_of-ends c = c.stitch_edges-tally.auto.1.1.1.1.1.1.1.1.1.0
+shape_of-ends c = c.stitch_edges-tally.auto.walked.1.1.1.1.1.1.1.1.0
 
 pub returns : goal.returns
 returns c =

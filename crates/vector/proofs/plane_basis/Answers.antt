@@ -21,5 +21,4 @@ returns-in_default c =
 
 pub returns : goal.returns
 returns c =
-    let u = c.u-1.given in
-    ap (basis (vec3 u.0.0)) c.cross-v.ensures ∙ ap (with_u (vec3 c.args.normal)) (ap unit3 (sym u.1) ∙ u-is (goal.at.returns c).After-unit)
+    ap (basis (vec3 c.in-Along.u)) c.cross-v.ensures ∙ ap (with_u (vec3 c.args.normal)) (ap unit3 (sym c.in-Along.is) ∙ u-is (goal.at.returns c).After-unit)

@@ -8,7 +8,7 @@ use Rattle.weld.proofs.weld_segment.Goals as goal
 pub push_coord-b-requires : goal.push_coord-b-requires
 push_coord-b-requires c =
     let few = became_few c.push_coord-a.ensures in
-    omega (arith, c.requires, c.push_coord-a.auto.0)
+    omega (arith, c.requires, c.push_coord-a.auto.points)
 
 pub returns : goal.returns
 returns c =

@@ -74,7 +74,7 @@ loop-i-preserved c =
     (omega (arith, c.requires.2))
     (first_distance (cut3 g.cut) 3 g.n g.polygon.now g.points.now g.sign c.requires.3 c.requires.0)
     c.signed_at-db.ensures in
-    clipping_step v upper c.next_of.ensures c.coord3-b.ensures db c.clip_edge-edge.ensures.points c.push_clip-m.ensures c.push_clip-m.auto.0
+    clipping_step v upper c.next_of.ensures c.coord3-b.ensures db c.clip_edge-edge.ensures.points c.push_clip-m.ensures c.push_clip-m.auto.points
 
 pub shape_of-points : goal.shape_of-points
 shape_of-points c = c.loop-i.invariant.same_length

@@ -36,7 +36,7 @@ loop-i-preserved c =
     listing_step c.loop-i.invariant
     c.loop-i-test.true
     c.next_of.ensures c.coord3-b.ensures
-    c.push_segment-k.ensures c.push_segment-k.auto.0
+    c.push_segment-k.ensures c.push_segment-k.auto.out
 
 pub shape_of-out : goal.shape_of-out
 shape_of-out c = c.loop-i.invariant.same_length

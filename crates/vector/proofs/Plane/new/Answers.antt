@@ -25,5 +25,4 @@ returns-in_default-plane_basis c =
 pub returns : goal.returns
 returns c =
     let o = vec3 c.args.origin in
-    let b = c.u-1.given in
-    from-basis (goal.at.returns c).After-plane_basis o (basis (vec3 b.0.0) (vec3 b.0.1.0)) (ap basis_of (sym b.1))
+    from-basis (goal.at.returns c).After-plane_basis o (basis (vec3 c.in-Basis.u) (vec3 c.in-Basis.v)) (ap basis_of (sym c.in-Basis.is))
