@@ -74,7 +74,7 @@ project_segments-k-requires c =
     let count =
     section_count 3 (cut_by (frame_of g.plane) g.tol) (get_or g.ends.now c.loop-i.i 0 - c.loop-i.s)
     (take (length g.coords.now - at) (drop at g.coords.now)) c.plane_section_segments-found.ensures.segments in (
-      omega (arith, count, face_space v.0 h, v.2, c.plane_section_segments-found.auto.out.1.1.1.0),
+      omega (arith, count, face_space v.0 h, v.2, c.plane_section_segments-found.auto.out),
       omega (arith, count, c.requires.2),
     )
 
@@ -89,9 +89,9 @@ loop-i-preserved c =
     let v = c.loop-i.invariant in
     let found = c.plane_section_segments-found in
     let put = c.project_segments-k in (
-      gathering_step v.0 c.loop-i-test.true refl found.ensures.segments put.ensures put.auto.1.1.1.0,
-      found.auto.1.1.1.0 ∙ v.1,
-      found.auto.1.1.1.1.0 ∙ v.2,
+      gathering_step v.0 c.loop-i-test.true refl found.ensures.segments put.ensures put.auto.out,
+      found.auto.points ∙ v.1,
+      found.auto.out ∙ v.2,
     )
 
 pub shape_of-points : goal.shape_of-points

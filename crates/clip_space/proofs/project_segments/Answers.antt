@@ -59,7 +59,7 @@ loop-i-preserved c =
     let second = c.put2-in-loop-i in
     carrying_step v c.loop-i-test.true (omega (arith, c.requires))
     (by_ends (project (frame_of c.args.plane)) c.coord3.ensures c.project.ensures c.coord3-in-loop-i.ensures
-    c.project-in-loop-i.ensures) refl refl first.ensures second.ensures (second.auto.0 ∙ first.auto.0 ∙ v.same_length)
+    c.project-in-loop-i.ensures) refl refl first.ensures second.ensures (second.auto.xs ∙ first.auto.xs ∙ v.same_length)
 
 pub overflow_add-result : goal.overflow_add-result
 overflow_add-result c = omega arith

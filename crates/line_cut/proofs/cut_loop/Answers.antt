@@ -17,19 +17,19 @@ put_on_line-requires c =
     let h = loop_segments_lem g.tol ps g.nodes.now c.axis.ensures c.loop_points.ensures c.plane_section_segments-found.ensures.segments in
     let few = loop_few g.tol ps g.nodes.now h in
     let room = c.requires.0.for_flat in
-    (omega (arith, c.plane_section_segments-found.auto.out.1.1.0), omega (arith, c.requires.1))
+    (omega (arith, c.plane_section_segments-found.auto.points), omega (arith, c.requires.1))
 
 pub shape_of-polygon : goal.shape_of-polygon
-shape_of-polygon c = c.loop_points.auto.1.1.1.0
+shape_of-polygon c = c.loop_points.auto.out
 
 pub shape_of-clipped : goal.shape_of-clipped
-shape_of-clipped c = c.plane_section_segments-found.auto.out.1.1.0
+shape_of-clipped c = c.plane_section_segments-found.auto.points
 
 pub shape_of-flat : goal.shape_of-flat
-shape_of-flat c = c.plane_section_segments-found.auto.out.1.1.1.0
+shape_of-flat c = c.plane_section_segments-found.auto.out
 
 pub shape_of-numbers : goal.shape_of-numbers
-shape_of-numbers c = c.put_on_line.auto.1.1.1.0
+shape_of-numbers c = c.put_on_line.auto.out
 
 pub returns : goal.returns
 returns c =

@@ -74,10 +74,10 @@ pub loop-i-preserved : goal.loop-i-preserved
 loop-i-preserved c =
     let v = c.loop-i.invariant in
     let one = c.cut_loop-found in (
-      loops_step v.0 c.loop-i-test.true c.wide-e.ensures one.ensures.segments one.auto.1.1.1.1.1.1.1.1.0,
-      one.auto.1.1.1.1.1.0 ∙ v.1,
-      one.auto.1.1.1.1.1.1.0 ∙ v.2,
-      one.auto.1.1.1.1.1.1.1.0 ∙ v.3,
+      loops_step v.0 c.loop-i-test.true c.wide-e.ensures one.ensures.segments one.auto.numbers,
+      one.auto.polygon ∙ v.1,
+      one.auto.clipped ∙ v.2,
+      one.auto.flat ∙ v.3,
     )
 
 pub shape_of-polygon : goal.shape_of-polygon

@@ -57,7 +57,7 @@ loop-i-preserved c =
     carrying_step v c.loop-i-test.true
     (omega (arith, c.requires.1))
     (by_ends (on_line (frame_of c.args.plane)) c.coord2.ensures c.on_line.ensures c.coord2-in-loop-i.ensures c.on_line-in-loop-i.ensures) refl refl
-    first.ensures second.ensures (second.auto.0 ∙ first.auto.0 ∙ v.same_length)
+    first.ensures second.ensures (second.auto.xs ∙ first.auto.xs ∙ v.same_length)
 
 pub overflow_add-result : goal.overflow_add-result
 overflow_add-result c = omega arith

@@ -28,7 +28,7 @@ stitch_from-tally-requires c =
       looping_spare l.invariant c.requires.0 c.requires.1,
       c.loop-k-test.true,
       l.invariant.so_far.counting,
-      omega (arith, c.requires.3, c.last_edges.auto.1.1.0),
+      omega (arith, c.requires.3, c.last_edges.auto.last),
       c.last_edges.ensures,
     )
 
@@ -55,7 +55,7 @@ loop-k-preserved c =
     let f = c.stitch_from-tally in
     looping_step l.invariant c.requires.0 c.requires.1
     c.loop-k-test.true
-    f.auto.1.1.1.1.1.1.1.0 f.auto.1.1.1.1.1.1.1.1.0 f.auto.1.1.1.1.1.1.1.1.1.0 f.auto.1.1.1.1.1.1.1.1.1.1.0 f.ensures
+    f.auto.used f.auto.walked f.auto.nodes f.auto.ends f.ensures
 
 pub shape_of-used : goal.shape_of-used
 shape_of-used c = c.loop-k.invariant.marks

@@ -25,13 +25,13 @@ stitch_within-requires c = (
 )
 
 pub shape_of-numbers : goal.shape_of-numbers
-shape_of-numbers c = c.stitch_within.auto.larger.1.1.1.1.1.1.1.0
+shape_of-numbers c = c.stitch_within.auto.numbers
 
 pub shape_of-nodes : goal.shape_of-nodes
-shape_of-nodes c = c.stitch_within.auto.larger.1.1.1.1.1.1.1.1.0
+shape_of-nodes c = c.stitch_within.auto.nodes
 
 pub shape_of-ends : goal.shape_of-ends
-shape_of-ends c = c.stitch_within.auto.larger.1.1.1.1.1.1.1.1.1.0
+shape_of-ends c = c.stitch_within.auto.ends
 
 pub returns : goal.returns
 returns c = c.stitch_within.ensures

@@ -54,16 +54,16 @@ finish-requires c =
     finishing c.args.k c.requires.0 c.requires.1 c.requires.3 c.requires.2 (free (goal.at.finish-requires c).After-walk-w) c.walk-w.ensures
 
 pub shape_of-used : goal.shape_of-used
-shape_of-used c = c.walk-w.auto.nodes.1.1.1.1.1.0
+shape_of-used c = c.walk-w.auto.used
 
 pub shape_of-walked : goal.shape_of-walked
-shape_of-walked c = c.walk-w.auto.nodes.1.1.1.1.1.1.0
+shape_of-walked c = c.walk-w.auto.nodes
 
 pub shape_of-nodes : goal.shape_of-nodes
-shape_of-nodes c = c.finish.auto.ends.1.1.1.1.0
+shape_of-nodes c = c.finish.auto.nodes
 
 pub shape_of-ends : goal.shape_of-ends
-shape_of-ends c = c.finish.auto.ends.1.1.1.1.1.0
+shape_of-ends c = c.finish.auto.ends
 
 pub returns : goal.returns
 returns c =

@@ -10,14 +10,14 @@ use Rattle.stitch.proofs.stitch_within.Goals.{After-weld-w}
 
 fit : (a : After-weld-w) → let g = a.args in
     let f = a.weld-w in
-    Walkable f.result.points f.result.edges f.new.1.1.1.0 f.new.1.1.1.1.0 f.new.1.1.1.1.1.0 g.used.now
+    Walkable f.result.points f.result.edges f.new.points f.new.smaller f.new.larger g.used.now
     g.walked.now g.nodes.now g.ends.now
 fit a =
     let g = a.args in
     let f = a.weld-w in
-    walkable g.rule f.ensures a.requires.0 f.auto.1.1.1.0
-    (f.auto.1.1.1.1.0 ∙ a.requires.1.same ∙ sym f.auto.1.1.1.1.1.0)
-    (omega (arith, f.auto.1.1.1.1.0, a.requires.1.for_edges)) g.used.now g.walked.now a.requires.1.unmarked a.requires.1.for_walk
+    walkable g.rule f.ensures a.requires.0 f.auto.points
+    (f.auto.smaller ∙ a.requires.1.same ∙ sym f.auto.larger)
+    (omega (arith, f.auto.smaller, a.requires.1.for_edges)) g.used.now g.walked.now a.requires.1.unmarked a.requires.1.for_walk
 
 pub slice_bounds-stitch_edges-end-2 : goal.slice_bounds-stitch_edges-end-2
 slice_bounds-stitch_edges-end-2 c = (fit (goal.at.slice_bounds-stitch_edges-end-2 c).After-weld-w).first_count
@@ -44,30 +44,30 @@ stitch_edges-tally-requires c =
     )
 
 pub shape_of-smaller : goal.shape_of-smaller
-shape_of-smaller c = c.weld-w.auto.smaller.1.1.1.0
+shape_of-smaller c = c.weld-w.auto.smaller
 
 pub shape_of-larger : goal.shape_of-larger
-shape_of-larger c = c.weld-w.auto.smaller.1.1.1.1.0
+shape_of-larger c = c.weld-w.auto.larger
 
 pub shape_of-walked : goal.shape_of-walked
-shape_of-walked c = c.stitch_edges-tally.auto.walked.1.1.1.1.1.0
+shape_of-walked c = c.stitch_edges-tally.auto.walked
 
 pub shape_of-last : goal.shape_of-last
-shape_of-last c = c.stitch_edges-tally.auto.walked.1.1.1.1.1.1.0
+shape_of-last c = c.stitch_edges-tally.auto.last
 
 pub shape_of-numbers : goal.shape_of-numbers
-shape_of-numbers c = c.weld-w.auto.smaller.1.1.0
+shape_of-numbers c = c.weld-w.auto.points
 
 pub shape_of-nodes : goal.shape_of-nodes
-shape_of-nodes c = c.stitch_edges-tally.auto.walked.1.1.1.1.1.1.1.0
+shape_of-nodes c = c.stitch_edges-tally.auto.nodes
 
 pub shape_of-ends : goal.shape_of-ends
-shape_of-ends c = c.stitch_edges-tally.auto.walked.1.1.1.1.1.1.1.1.0
+shape_of-ends c = c.stitch_edges-tally.auto.ends
 
 pub returns : goal.returns
 returns c =
     let g = c.args in
     let f = c.weld-w in
-    stitches g.rule f.ensures c.requires.0 f.auto.1.1.1.0
-    (f.auto.1.1.1.1.0 ∙ c.requires.1.same ∙ sym f.auto.1.1.1.1.1.0)
-    (omega (arith, f.auto.1.1.1.1.0, c.requires.1.for_edges)) c.stitch_edges-tally.result _ _ c.stitch_edges-tally.ensures
+    stitches g.rule f.ensures c.requires.0 f.auto.points
+    (f.auto.smaller ∙ c.requires.1.same ∙ sym f.auto.larger)
+    (omega (arith, f.auto.smaller, c.requires.1.for_edges)) c.stitch_edges-tally.result _ _ c.stitch_edges-tally.ensures

@@ -73,7 +73,7 @@ loop-current-init c =
 pub offset_bounds-nodes-count : goal.offset_bounds-nodes-count
 offset_bounds-nodes-count c =
     let l = c.loop-current in
-    omega (arith, l.invariant.left)
+    omega (arith, l.invariant.false)
 
 pub bounds-nodes-count : goal.bounds-nodes-count
 bounds-nodes-count c =
@@ -109,7 +109,7 @@ select_next_edge-requires c =
     )
 
 pub overflow_add-result : goal.overflow_add-result
-overflow_add-result c = omega (arith, c.loop-current.invariant.left)
+overflow_add-result c = omega (arith, c.loop-current.invariant.false)
 
 pub shape_of-used-in_default : goal.shape_of-used-in_default
 shape_of-used-in_default c =
@@ -157,7 +157,7 @@ bounds-larger-next_edge c =
     )
 
 pub overflow_add-count : goal.overflow_add-count
-overflow_add-count c = omega (arith, c.loop-current.invariant.left)
+overflow_add-count c = omega (arith, c.loop-current.invariant.false)
 
 pub loop-current-smaller : goal.loop-current-smaller
 loop-current-smaller c =

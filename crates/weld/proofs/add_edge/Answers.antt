@@ -5,12 +5,12 @@ use Rattle.weld.proofs.Lists.{added_new, added_none, added_old}
 use Rattle.weld.proofs.add_edge.Goals as goal
 
 pub returns-then-a-b : goal.returns-then-a-b
-returns-then-a-b c = added_none c.if-a-b.taken
+returns-then-a-b c = added_none c.if-a-b.true
 
 pub returns-then-known : goal.returns-then-known
 returns-then-known c =
-    added_old c.between-e.ensures c.if-a-b.left (sym c.known.ensures ∙ c.if-known.taken)
+    added_old c.between-e.ensures c.if-a-b.false (sym c.known.ensures ∙ c.if-known.true)
 
 pub returns : goal.returns
 returns c =
-    added_new c.between-e.ensures c.if-a-b.left (sym c.known.ensures ∙ c.if-known.left) c.requires.1 c.requires.0
+    added_new c.between-e.ensures c.if-a-b.false (sym c.known.ensures ∙ c.if-known.false) c.requires.1 c.requires.0

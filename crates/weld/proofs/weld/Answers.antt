@@ -12,7 +12,7 @@ loop-i-init c = welding_start c.requires.alike
 pub loop-i-preserved : goal.loop-i-preserved
 loop-i-preserved c =
     let w = c.weld_segment-welded in
-    welding_step c.loop-i.invariant c.loop-i-test.true w.ensures w.auto.1.1.1.0 w.auto.1.1.1.1.0 w.auto.1.1.1.1.1.0
+    welding_step c.loop-i.invariant c.loop-i-test.true w.ensures w.auto.points w.auto.smaller w.auto.larger
 
 pub shape_of-points : goal.shape_of-points
 shape_of-points c = c.loop-i.invariant.points_room

@@ -15,10 +15,9 @@ push_unique-k-requires c =
 
 pub push_unique-requires-in-Two : goal.push_unique-requires-in-Two
 push_unique-requires-in-Two c =
-    let two = c.clip-in-Two-1.given in
     let first = c.push_unique-k in
-    let h = rw two.1 at c.requires in
-    omega (arith, pushed_at_most c.args.m _ (vec2 two.0.0) first.ensures, first.auto.0)
+    let h = rw c.in-Two.is at c.requires in
+    omega (arith, pushed_at_most c.args.m _ (vec2 c.in-Two.p) first.ensures, first.auto.points)
 
 pub returns-in-Nothing : goal.returns-in-Nothing
 returns-in-Nothing c =
@@ -26,13 +25,11 @@ returns-in-Nothing c =
 
 pub returns-in-One : goal.returns-in-One
 returns-in-One c =
-    let one = c.clip-1.given in
-    rw one.1
-    (push_one c.args.m _ (vec2 one.0.0) c.push_unique.ensures)
+    rw c.in-One.is
+    (push_one c.args.m _ (vec2 c.in-One.p) c.push_unique.ensures)
 
 pub returns-in-Two : goal.returns-in-Two
 returns-in-Two c =
-    let two = c.clip-in-Two-1.given in
-    rw two.1
-    (push_two c.args.m _ (vec2 two.0.0) _
+    rw c.in-Two.is
+    (push_two c.args.m _ (vec2 c.in-Two.p) _
     c.push_unique-k.ensures c.push_unique-in-Two.ensures)

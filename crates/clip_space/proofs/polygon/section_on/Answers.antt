@@ -9,7 +9,7 @@ use Rattle.clip_space.proofs.polygon.section_on.Goals as goal
 pub without_closing-m-requires : goal.without_closing-m-requires
 without_closing-m-requires c =
     let g = c.args in
-    omega (arith, clipped_count (cut3 g.cut) g.sign g.n g.polygon.now c.clip_polygon-clipped.ensures.points, c.clip_polygon-clipped.auto.1.1.1.1.1.0, c.requires)
+    omega (arith, clipped_count (cut3 g.cut) g.sign g.n g.polygon.now c.clip_polygon-clipped.ensures.points, c.clip_polygon-clipped.auto.points, c.requires)
 
 pub returns-then-m-lt2 : goal.returns-then-m-lt2
 returns-then-m-lt2 c =
@@ -19,7 +19,7 @@ returns-then-m-lt2 c =
 pub segments-requires : goal.segments-requires
 segments-requires c =
     let g = c.args in
-    omega (arith, clipped_count (cut3 g.cut) g.sign g.n g.polygon.now c.clip_polygon-clipped.ensures.points, c.clip_polygon-clipped.auto.1.1.1.1.1.0, c.requires, c.without_closing-m.ensures.1, c.if-m-lt2.false)
+    omega (arith, clipped_count (cut3 g.cut) g.sign g.n g.polygon.now c.clip_polygon-clipped.ensures.points, c.clip_polygon-clipped.auto.points, c.requires, c.without_closing-m.ensures.1, c.if-m-lt2.false)
 
 pub returns : goal.returns
 returns c =

@@ -43,13 +43,13 @@ stitch_segments-requires c =
     }
 
 pub shape_of-numbers : goal.shape_of-numbers
-shape_of-numbers c = c.stitch_segments.auto.nodes.1.1.0
+shape_of-numbers c = c.stitch_segments.auto.numbers
 
 pub shape_of-nodes : goal.shape_of-nodes
-shape_of-nodes c = c.stitch_segments.auto.nodes.1.1.1.0
+shape_of-nodes c = c.stitch_segments.auto.nodes
 
 pub shape_of-ends : goal.shape_of-ends
-shape_of-ends c = c.stitch_segments.auto.nodes.1.1.1.1.0
+shape_of-ends c = c.stitch_segments.auto.ends
 
 pub returns : goal.returns
 returns c =
