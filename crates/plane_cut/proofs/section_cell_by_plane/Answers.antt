@@ -21,10 +21,6 @@ use Rattle.plane_cut.proofs.Claims.{can_section}
 use borrow.Author.Rules.{rules}
 use Rattle.plane_cut.proofs.section_cell_by_plane.Goals as goal
 
--- what the entry does with m corners of polygons on a plane
-abbrev work : Start → ℕ → List Polygon → Frame → Outcome Answer
-work s = let g = s.args in section_in g.tol (lengths (buffers g.numbers.now g.nodes.now g.ends.now))
-
 pub overflow_mul-corners : goal.overflow_mul-corners
 overflow_mul-corners c = omega (arith, corners_few (cell c.args.cell_type c.args.conn.now c.args.coords.now) c.test_space_cell.ensures c.in-Cell.is)
 
@@ -33,7 +29,7 @@ overflow_mul-corners-in-On c = omega (arith, corners_few (cell c.args.cell_type 
 
 pub returns-then-not-room : goal.returns-then-not-room
 returns-then-not-room c =
-    gave_refusal _ (at_work c.test_space_cell.ensures c.in-Cell.is (work c) (sym c.place.ensures ∙ ap placing c.in-On.is) (test_failed 7 _ _ (sym c.room.ensures ∙ c.if-not-room.true)))
+    gave_refusal _ (at_work c.test_space_cell.ensures c.in-Cell.is (let g = c.args in section_in g.tol (lengths (buffers g.numbers.now g.nodes.now g.ends.now))) (sym c.place.ensures ∙ ap placing c.in-On.is) (test_failed 7 _ _ (sym c.room.ensures ∙ c.if-not-room.true)))
 
 pub section_cell-requires : goal.section_cell-requires
 section_cell-requires c =
@@ -41,12 +37,12 @@ section_cell-requires c =
 
 pub returns-in-Refused : goal.returns-in-Refused
 returns-in-Refused c =
-    gave_refusal _ (cell_refused c.test_space_cell.ensures (place_in Normal (through c.args.origin.now c.args.normal.now)) (work c) c.in-Refused.is)
+    gave_refusal _ (cell_refused c.test_space_cell.ensures (place_in Normal (through c.args.origin.now c.args.normal.now)) (let g = c.args in section_in g.tol (lengths (buffers g.numbers.now g.nodes.now g.ends.now))) c.in-Refused.is)
 
 pub returns-in-Refused-place : goal.returns-in-Refused-place
 returns-in-Refused-place c =
-    gave_refusal _ (place_refused c.test_space_cell.ensures c.in-Cell.is (work c) (sym c.place.ensures ∙ ap placing c.in-Refused-place.is))
+    gave_refusal _ (place_refused c.test_space_cell.ensures c.in-Cell.is (let g = c.args in section_in g.tol (lengths (buffers g.numbers.now g.nodes.now g.ends.now))) (sym c.place.ensures ∙ ap placing c.in-Refused-place.is))
 
 pub returns-else-not-room : goal.returns-else-not-room
 returns-else-not-room c =
-    gave_section (at_work c.test_space_cell.ensures c.in-Cell.is (work c) (sym c.place.ensures ∙ ap placing c.in-On.is) (test_passed 7 _ _ (sym c.room.ensures ∙ c.if-not-room.false))) c.section_cell.ensures.stitched
+    gave_section (at_work c.test_space_cell.ensures c.in-Cell.is (let g = c.args in section_in g.tol (lengths (buffers g.numbers.now g.nodes.now g.ends.now))) (sym c.place.ensures ∙ ap placing c.in-On.is) (test_passed 7 _ _ (sym c.room.ensures ∙ c.if-not-room.false))) c.section_cell.ensures.stitched

@@ -33,8 +33,7 @@ pub walk-w-requires : goal.walk-w-requires
 walk-w-requires c = (
   c.requires.0,
   c.requires.2,
-  walked_room
-      c,
+  walked_room (goal.at.walk-w-requires c).Start,
   sym
       (mark (goal.at.walk-w-requires c).Start) ∙ c.if-used-k.false,
   c.requires.4,

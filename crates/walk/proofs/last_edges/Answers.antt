@@ -12,17 +12,14 @@ use Rattle.walk.proofs.Lasts.{LastsTo, lasts_start, lasts_step, lasts_end}
 use Rattle.walk.proofs.last_edges.Goals as goal
 use Rattle.walk.proofs.last_edges.Goals.{After-wide-b}
 
-abbrev turn : After-wide-b → ℕ
-turn c = c.before.before.before.before.before.loop.k
-
 first-in : (c : After-wide-b) → c.wide-a.result < length c.args.last.now
 first-in c =
-    let h = c.requires.2 (turn c) c.loop-k-test.true in
+    let h = c.requires.2 c.loop-k.k c.loop-k-test.true in
     omega (arith, c.wide-a.ensures)
 
 second-in : (c : After-wide-b) → c.wide-b.result < length c.args.last.now
 second-in c =
-    let h = c.requires.3 (turn c) (omega (arith, c.requires.0, c.loop-k-test.true)) in
+    let h = c.requires.3 c.loop-k.k (omega (arith, c.requires.0, c.loop-k-test.true)) in
     omega (arith, c.wide-b.ensures)
 
 pub loop-k-init : goal.loop-k-init

@@ -46,8 +46,7 @@ returns-then-second-smaller c =
     (omega (
       arith,
       c.first_available-first.ensures.inside,
-      count
-          c,
+      count (goal.at.returns-then-second-smaller c).Start,
       c.if-first-smaller.false,
     )) c.first_available-second.ensures
     (omega (arith, c.if-second-smaller.true, count (goal.at.returns-then-second-smaller c).Start))
@@ -64,8 +63,7 @@ straightest-requires c = (
   omega (
     arith,
     c.first_available-second.ensures.inside,
-    count
-        c,
+    count (goal.at.straightest-requires c).Start,
     c.if-second-smaller.false,
   ),
   c.requires.3,
@@ -83,15 +81,13 @@ returns c =
     (omega (
       arith,
       c.first_available-first.ensures.inside,
-      count
-          c,
+      count (goal.at.returns c).Start,
       c.if-first-smaller.false,
     )) c.first_available-second.ensures
     c.arrive-arrival.result c.straightest.result (omega (
       arith,
       c.first_available-second.ensures.inside,
-      count
-          c,
+      count (goal.at.returns c).Start,
       c.if-second-smaller.false,
     ))
     c.arrive-arrival.ensures c.straightest.ensures

@@ -15,34 +15,29 @@ use Rattle.walk.proofs.Walking.{Going, whole, walk_is, going_start, in_buffer, m
 use Rattle.walk.proofs.walk.Goals as goal
 use Rattle.walk.proofs.walk.Goals.{In-Edge, In_default, Start}
 
--- the length of its buffer after the first store
-abbrev room : Start → ℕ
-room s = length (set s.args.nodes.now 0 (get_or s.args.smaller.now s.args.start-edge 0))
+-- the buffer has room for the walk also after the first store
+fits : (s : Start) → length s.args.smaller.now < length (set s.args.nodes.now 0 (get_or s.args.smaller.now s.args.start_edge 0))
+fits s = rw (length-set s.args.nodes.now 0 (get_or s.args.smaller.now s.args.start_edge 0)) s.requires.2
 
-fits : (s : Start) → length s.args.smaller.now < room s
-fits s = rw (length-set s.args.nodes.now 0 (get_or s.args.smaller.now s.args.start-edge 0)) s.requires.2
-
-abbrev choice : At-loop-current → Next
-choice L =
-    let g = (entry L).args in
-    next_edge (rows 2 g.n g.points.now) (edges_of g.smaller.now g.larger.now) L.loop.used L.loop.previous
-    L.loop.current
-
-abbrev taken : In-Edge → ℕ
-taken c = c.before.next_edge.given.0.0
-
-chosen : (c : In-Edge) → choice c ≡ next.Edge (taken c)
+-- the junction's choice where the loop's test is reached
+chosen : (c : In-Edge)
+    → next_edge (rows 2 c.args.n c.args.points.now) (edges_of c.args.smaller.now c.args.larger.now) c.loop-current.used
+    c.loop-current.previous c.loop-current.current
+    ≡ next.Edge c.in-Edge.next_edge
 chosen c = sym c.select_next_edge.ensures ∙ c.in-Edge.is
 
-inside : (c : In-Edge) → taken c < length (entry c).args.smaller.now
+inside : (c : In-Edge) → c.in-Edge.next_edge < length c.args.smaller.now
 inside c =
-    let fits : length s.args.smaller.now < room s = rw (length-set s.args.nodes.now 0 (get_or s.args.smaller.now s.args.start-edge 0)) s.requires.2 in
-    let s = entry c in
-    let l = c.loop-current in
-    free_in l.invariant c.requires.0.graph fits (chosen c)
+    let g = c.args in
+    let fit : length g.smaller.now < length (set g.nodes.now 0 (get_or g.smaller.now g.start_edge 0))
+    = rw (length-set g.nodes.now 0 (get_or g.smaller.now g.start_edge 0)) c.requires.2 in
+    free_in c.loop-current.invariant c.requires.0.graph fit (chosen c)
 
 -- no edge is left to choose
-none_left : (c : In_default) → choice c ≡ next.Nothing
+none_left : (c : In_default)
+    → next_edge (rows 2 c.args.n c.args.points.now) (edges_of c.args.smaller.now c.args.larger.now) c.loop-current.used
+    c.loop-current.previous c.loop-current.current
+    ≡ next.Nothing
 none_left c = sym c.select_next_edge.ensures ∙ c.in_default.is
 
 pub offset_bounds-smaller-start_edge : goal.offset_bounds-smaller-start_edge
@@ -66,14 +61,14 @@ bounds-larger-start_edge c = omega (arith, c.requires.0.graph.same)
 pub loop-current-init : goal.loop-current-init
 loop-current-init c =
     let g = c.args in
-    going_start g.n g.points.now g.smaller.now g.larger.now g.used.now g.nodes.now g.start-edge c.requires.0
+    going_start g.n g.points.now g.smaller.now g.larger.now g.used.now g.nodes.now g.start_edge c.requires.0
     c.requires.1
     c.requires.2 c.requires.3
 
 pub offset_bounds-nodes-count : goal.offset_bounds-nodes-count
 offset_bounds-nodes-count c =
     let l = c.loop-current in
-    omega (arith, l.invariant.false)
+    omega (arith, l.invariant.left)
 
 pub bounds-nodes-count : goal.bounds-nodes-count
 bounds-nodes-count c =
@@ -84,32 +79,24 @@ pub end_at-end-requires : goal.end_at-end-requires
 end_at-end-requires c =
     omega (arith, c.loop-current.invariant.c_in, c.requires.4)
 
--- the last edge at a point is one of the edges
-end-in : (c : tie.After-select-next-edge-arg invariant-loop decreases-loop)
-    → c.before.end-at.result ≤ length (entry c.before.before.before).args.smaller.now
-end-in c =
-    let L = c.before.before.before in
-    let s = entry L in
-    omega (
-      arith,
-      s.pre.1,
-      s.pre.5.inside L.loop.current,
-      c.before.end-at.ensures,
-      edges_length s.args.smaller.now s.args.larger.now s.pre.0.graph.same,
-    )
-
 pub select_next_edge-requires : goal.select_next_edge-requires
 select_next_edge-requires c =
     let l = c.loop-current in (
       marked l.invariant c.requires.0.graph (fits (goal.at.select_next_edge-requires c).Start),
       l.invariant.p_in,
       l.invariant.c_in,
-      end-in c,
+      omega (
+        arith,
+        c.requires.1,
+        c.requires.5.inside l.current,
+        c.end_at-end.ensures,
+        edges_length c.args.smaller.now c.args.larger.now c.requires.0.graph.same,
+      ),
       λ k h h'. c.requires.5.none_after l.current k (omega (arith, h, c.end_at-end.ensures)) h',
     )
 
 pub overflow_add-result : goal.overflow_add-result
-overflow_add-result c = omega (arith, c.loop-current.invariant.false)
+overflow_add-result c = omega (arith, c.loop-current.invariant.left)
 
 pub shape_of-used-in_default : goal.shape_of-used-in_default
 shape_of-used-in_default c =
@@ -126,7 +113,7 @@ pub returns-in_default : goal.returns-in_default
 returns-in_default c =
     let g = c.args in
     let l = c.loop-current in
-    went_as (walk_is (rows 2 g.n g.points.now) g.smaller.now g.larger.now g.start-edge g.used.now c.requires.0.graph.same)
+    went_as (walk_is (rows 2 g.n g.points.now) g.smaller.now g.larger.now g.start_edge g.used.now c.requires.0.graph.same)
     (going_open l.invariant c.requires.0.graph (fits (goal.at.returns-in_default c).Start)
     c.loop-current-test.true
     (none_left c))
@@ -157,22 +144,18 @@ bounds-larger-next_edge c =
     )
 
 pub overflow_add-count : goal.overflow_add-count
-overflow_add-count c = omega (arith, c.loop-current.invariant.false)
+overflow_add-count c = omega (arith, c.loop-current.invariant.left)
 
 pub loop-current-smaller : goal.loop-current-smaller
 loop-current-smaller c =
-    let s =
-    c in
     let l = c.loop-current in
-    fewer l.invariant s.pre.0.graph (fits s)
+    fewer l.invariant c.requires.0.graph (fits (goal.at.loop-current-smaller c).Start)
     (chosen (goal.at.loop-current-smaller c).In-Edge)
 
 pub loop-current-preserved : goal.loop-current-preserved
 loop-current-preserved c =
-    let s =
-    c in
     let l = c.loop-current in
-    going_step l.invariant s.pre.0.graph (fits s)
+    going_step l.invariant c.requires.0.graph (fits (goal.at.loop-current-preserved c).Start)
     (chosen (goal.at.loop-current-preserved c).In-Edge)
     c.loop-current-test.true c.other_end-current.ensures
 
@@ -188,6 +171,6 @@ pub returns : goal.returns
 returns c =
     let g = c.args in
     let l = c.loop-current in
-    went_as (walk_is (rows 2 g.n g.points.now) g.smaller.now g.larger.now g.start-edge g.used.now c.requires.0.graph.same)
+    went_as (walk_is (rows 2 g.n g.points.now) g.smaller.now g.larger.now g.start_edge g.used.now c.requires.0.graph.same)
     (going_closed l.invariant c.requires.0.graph (fits (goal.at.returns c).Start)
     c.loop-current-test.false)
