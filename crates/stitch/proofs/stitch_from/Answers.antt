@@ -20,7 +20,7 @@ walked_room : (s : Start) → length s.args.smaller.now < length s.args.walked.n
 walked_room s = omega (arith, edges_length s.args.smaller.now s.args.larger.now s.requires.0.graph.same, s.requires.1.walked_room)
 
 free : (c : After-walk-w) → get_or c.args.used.now c.args.k true ≡ false
-free c = sym (mark c) ∙ c.if-used-k.false
+free c = sym (read_mark c.args.used.now c.args.k (omega (arith, c.requires.2, c.requires.0.marks))) ∙ c.if-used-k.false
 
 pub returns-then-used-k : goal.returns-then-used-k
 returns-then-used-k c =
