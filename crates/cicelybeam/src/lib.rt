@@ -1,4 +1,4 @@
-// Cicelybeam for C and Rust: thin functions over the proved entries. A slice passes as a pointer and a length.
+// Cicelybeam as the crate cicelybeam_c gives it to C and Rust: thin functions over the proved entries.
 ghost use Rattle.std.specs.Prelude.{◌≡◌, ◌<◌, length};
 ghost use Rattle.std.specs.Float.{binary64};
 ghost use Rattle.root.specs.Root.{sqrt_of};
@@ -46,8 +46,7 @@ pub struct Tolerance {
 }
 
 // A space cell cut by a plane.
-#[unsafe(no_mangle)]
-pub extern "C" fn cicelybeam_plane(
+pub fn cicelybeam_plane(
     cell_type: u8,
     conn: &[u64],
     coords: &[f64],
@@ -70,8 +69,7 @@ pub extern "C" fn cicelybeam_plane(
 }
 
 // The segments of a space cell on a plane, before they are stitched.
-#[unsafe(no_mangle)]
-pub extern "C" fn cicelybeam_gather(
+pub fn cicelybeam_gather(
     cell_type: u8,
     conn: &[u64],
     coords: &[f64],
@@ -89,8 +87,7 @@ pub extern "C" fn cicelybeam_gather(
 }
 
 // A space cell cut by a line.
-#[unsafe(no_mangle)]
-pub extern "C" fn cicelybeam_line_in_space(
+pub fn cicelybeam_line_in_space(
     cell_type: u8,
     conn: &[u64],
     coords: &[f64],
@@ -108,8 +105,7 @@ pub extern "C" fn cicelybeam_line_in_space(
 }
 
 // A plane cell cut by a line that its normal gives.
-#[unsafe(no_mangle)]
-pub extern "C" fn cicelybeam_plane_cell_by_normal(
+pub fn cicelybeam_plane_cell_by_normal(
     cell_type: u8,
     conn: &[u64],
     coords: &[f64],
@@ -127,8 +123,7 @@ pub extern "C" fn cicelybeam_plane_cell_by_normal(
 }
 
 // A plane cell cut by a line that its direction gives.
-#[unsafe(no_mangle)]
-pub extern "C" fn cicelybeam_plane_cell_by_direction(
+pub fn cicelybeam_plane_cell_by_direction(
     cell_type: u8,
     conn: &[u64],
     coords: &[f64],
@@ -146,8 +141,7 @@ pub extern "C" fn cicelybeam_plane_cell_by_direction(
 }
 
 // Stitching alone.
-#[unsafe(no_mangle)]
-pub extern "C" fn cicelybeam_stitch(
+pub fn cicelybeam_stitch(
     segments: &[f64],
     tol: f64,
     numbers: &mut [f64],
@@ -164,24 +158,21 @@ pub extern "C" fn cicelybeam_stitch(
 }
 
 // The tolerance of a mesh in space, by its coordinates.
-#[unsafe(no_mangle)]
-pub extern "C" fn cicelybeam_tolerance_in_space(coords: &[f64]) -> Tolerance
+pub fn cicelybeam_tolerance_in_space(coords: &[f64]) -> Tolerance
     ensures { told_tolerance_in result ≡ told_tolerance (tolerance_of 3 coords.now) }
 {
     told_tolerance(vector::tolerance_in_space(coords))
 }
 
 // The tolerance of a mesh in the plane.
-#[unsafe(no_mangle)]
-pub extern "C" fn cicelybeam_tolerance_in_plane(coords: &[f64]) -> Tolerance
+pub fn cicelybeam_tolerance_in_plane(coords: &[f64]) -> Tolerance
     ensures { told_tolerance_in result ≡ told_tolerance (tolerance_of 2 coords.now) }
 {
     told_tolerance(vector::tolerance_in_plane(coords))
 }
 
 // The square root as IEEE 754 has it.
-#[unsafe(no_mangle)]
-pub extern "C" fn cicelybeam_sqrt(x: f64) -> f64
+pub fn cicelybeam_sqrt(x: f64) -> f64
     ensures { result ≡ sqrt_of binary64 x }
 {
     root::sqrt(x)

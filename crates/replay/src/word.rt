@@ -1,15 +1,28 @@
 // Words of 64 bits, as they are read, and as numbers.
-ghost use Rattle.std.specs.Prelude.{◌≡◌, ◌^◌, ◌<◌, ◌≤◌, length};
+ghost use Rattle.std.specs.Prelude.{◌≡◌, ◌^◌, ◌<◌, ◌≤◌, length, IfOk};
 ghost use Rattle.replay.specs.Code.{Counts};
 ghost use Rattle.replay.specs.Same.{pattern_of};
 
-use libc::STDIN_FILENO;
+use std::io::{self, Read};
 
 // The next word of the input, or 0 where it has ended.
-pub fn next() -> u64 {
+pub fn next<R: Read>(input: &mut R) -> io::Result<u64> {
     let mut bytes = [0u8; 8];
-    io::read_full(STDIN_FILENO, &mut bytes);
-    from_bytes(&bytes)
+    read_full(input, &mut bytes)?;
+    Ok(from_bytes(&bytes))
+}
+
+// Reads until buf is full or the input ends. The rest of buf stays as it is.
+pub fn read_full<R: Read>(input: &mut R, buf: &mut [u8]) -> io::Result<()> {
+    let mut done = 0;
+    while done < buf.len() {
+        let n = input.read(&mut buf[done..])?;
+        if n == 0 {
+            break;
+        }
+        done += n;
+    }
+    Ok(())
 }
 
 // Eight bytes as a word, lowest first.
@@ -30,11 +43,11 @@ fn wide(x: u8) -> u64
 }
 
 // The next word as a length, or `most` where it is more.
-pub fn next_length(most: usize) -> usize
-    ensures { result ≤ most }
+pub fn next_length<R: Read>(input: &mut R, most: usize) -> io::Result<usize>
+    ensures { IfOk result (λ n. n ≤ most) }
 {
-    let n = next() as usize;
-    if n < most { n } else { most }
+    let n = next(input)? as usize;
+    Ok(if n < most { n } else { most })
 }
 
 // The number with the pattern b.
@@ -56,27 +69,27 @@ pub fn pattern(x: f64) -> u64
 }
 
 // Reads the next list, of words, to the start of out, and gives its length.
-pub fn next_words(out: &mut [u64]) -> usize
-    ensures { Counts result out.new }
+pub fn next_words<R: Read>(input: &mut R, out: &mut [u64]) -> io::Result<usize>
+    ensures { IfOk result (λ n. Counts n out.new) }
 {
-    let n = next_length(out.len());
+    let n = next_length(input, out.len())?;
     let mut i = 0;
     while i < n {
-        out[i] = next();
+        out[i] = next(input)?;
         i += 1;
     }
-    n
+    Ok(n)
 }
 
 // Reads the next list, of numbers, to the start of out, and gives its length.
-pub fn next_numbers(out: &mut [f64]) -> usize
-    ensures { Counts result out.new }
+pub fn next_numbers<R: Read>(input: &mut R, out: &mut [f64]) -> io::Result<usize>
+    ensures { IfOk result (λ n. Counts n out.new) }
 {
-    let n = next_length(out.len());
+    let n = next_length(input, out.len())?;
     let mut i = 0;
     while i < n {
-        out[i] = number(next());
+        out[i] = number(next(input)?);
         i += 1;
     }
-    n
+    Ok(n)
 }

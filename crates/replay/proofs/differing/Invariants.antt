@@ -3,7 +3,7 @@ use Rattle.std.proofs.Common.{◌≤◌, rules}
 use Rattle.replay.proofs.differing.Given as goal
 
 abbrev pub invariant-loop-left : goal.invariant-loop-left
-invariant-loop-left l = l.left ≤ l.n
+invariant-loop-left g l = l.left ≤ l.n
 
 abbrev pub decreases-loop-left : goal.decreases-loop-left
-decreases-loop-left l = l.left
+decreases-loop-left g l = l.left

@@ -3,7 +3,7 @@ use Rattle.std.proofs.Common.{◌≡◌, ◌-◌, ◌≤◌, length, arith, leng
 use Rattle.replay.proofs.word.next_numbers.Goals as goal
 
 pub loop-i-preserved : goal.loop-i-preserved
-loop-i-preserved c = simp length-set (omega arith)
+loop-i-preserved g c = simp length-set (omega arith)
 
 pub returns : goal.returns
-returns c = simp length-take (omega arith)
+returns g c = simp length-take (omega arith)

@@ -1,0 +1,165 @@
+// Cicelybeam for C and Rust: what the crate cicelybeam has, by the same names. A slice passes as a pointer and a length.
+#![tactic(auto)]
+
+ghost use Rattle.std.specs.Prelude.{◌≡◌, length};
+ghost use Rattle.std.specs.Float.{binary64};
+ghost use Rattle.root.specs.Root.{sqrt_of};
+ghost use Rattle.vector.specs.Tolerance.{told_tolerance, tolerance_of};
+ghost use Rattle.cell.specs.Read.{cell};
+ghost use Rattle.stitch.specs.Entry.{Gave, buffers, lengths, stitch_alone};
+ghost use Rattle.cuts.specs.Cuts.{through};
+ghost use Rattle.cuts.specs.Lines.{GaveLine};
+ghost use Rattle.cuts.specs.declared.Way.TheVariants as way;
+ghost use Rattle.plane_cut.specs.PlaneCut.{plane_cut};
+ghost use Rattle.line_cut.specs.LineCut.{line_cut};
+ghost use Rattle.plane_cell.specs.PlaneCell.{plane_cell_cut};
+ghost use Rattle.gather.specs.Gather.{gather_cut};
+ghost use Rattle.cicelybeam.specs.Exports.{told_in, told_line_in, told_tolerance_in};
+
+use cicelybeam::{Line, Section, Tolerance};
+
+// A space cell cut by a plane.
+#[unsafe(no_mangle)]
+pub extern "C" fn cicelybeam_plane(
+    cell_type: u8,
+    conn: &[u64],
+    coords: &[f64],
+    origin: &[f64],
+    normal: &[f64],
+    tol: f64,
+    numbers: &mut [f64],
+    nodes: &mut [u32],
+    ends: &mut [u32],
+) -> Section
+    ensures { Gave
+        (plane_cut (cell cell_type conn.now coords.now) (through origin.now normal.now) tol
+        (lengths (buffers numbers.old nodes.old ends.old)))
+        (told_in result) (buffers numbers.old nodes.old ends.old)
+        (buffers numbers.new nodes.new ends.new) }
+{
+    cicelybeam::cicelybeam_plane(
+        cell_type, conn, coords, origin, normal, tol, numbers, nodes, ends,
+    )
+}
+
+// The segments of a space cell on a plane, before they are stitched.
+#[unsafe(no_mangle)]
+pub extern "C" fn cicelybeam_gather(
+    cell_type: u8,
+    conn: &[u64],
+    coords: &[f64],
+    origin: &[f64],
+    normal: &[f64],
+    tol: f64,
+    numbers: &mut [f64],
+) -> Line
+    ensures { GaveLine
+        (gather_cut (cell cell_type conn.now coords.now)
+        (through origin.now normal.now) tol (length numbers.old))
+        (told_line_in result) numbers.old numbers.new }
+{
+    cicelybeam::cicelybeam_gather(cell_type, conn, coords, origin, normal, tol, numbers)
+}
+
+// A space cell cut by a line.
+#[unsafe(no_mangle)]
+pub extern "C" fn cicelybeam_line_in_space(
+    cell_type: u8,
+    conn: &[u64],
+    coords: &[f64],
+    origin: &[f64],
+    direction: &[f64],
+    tol: f64,
+    numbers: &mut [f64],
+) -> Line
+    ensures { GaveLine
+        (line_cut (cell cell_type conn.now coords.now)
+        (through origin.now direction.now) tol (length numbers.old))
+        (told_line_in result) numbers.old numbers.new }
+{
+    cicelybeam::cicelybeam_line_in_space(cell_type, conn, coords, origin, direction, tol, numbers)
+}
+
+// A plane cell cut by a line that its normal gives.
+#[unsafe(no_mangle)]
+pub extern "C" fn cicelybeam_plane_cell_by_normal(
+    cell_type: u8,
+    conn: &[u64],
+    coords: &[f64],
+    origin: &[f64],
+    normal: &[f64],
+    tol: f64,
+    numbers: &mut [f64],
+) -> Line
+    ensures { GaveLine
+        (plane_cell_cut way.Normal (cell cell_type conn.now coords.now)
+        (through origin.now normal.now) tol (length numbers.old))
+        (told_line_in result) numbers.old numbers.new }
+{
+    cicelybeam::cicelybeam_plane_cell_by_normal(
+        cell_type, conn, coords, origin, normal, tol, numbers,
+    )
+}
+
+// A plane cell cut by a line that its direction gives.
+#[unsafe(no_mangle)]
+pub extern "C" fn cicelybeam_plane_cell_by_direction(
+    cell_type: u8,
+    conn: &[u64],
+    coords: &[f64],
+    origin: &[f64],
+    direction: &[f64],
+    tol: f64,
+    numbers: &mut [f64],
+) -> Line
+    ensures { GaveLine
+        (plane_cell_cut way.Direction (cell cell_type conn.now coords.now)
+        (through origin.now direction.now) tol (length numbers.old))
+        (told_line_in result) numbers.old numbers.new }
+{
+    cicelybeam::cicelybeam_plane_cell_by_direction(
+        cell_type, conn, coords, origin, direction, tol, numbers,
+    )
+}
+
+// Stitching alone.
+#[unsafe(no_mangle)]
+pub extern "C" fn cicelybeam_stitch(
+    segments: &[f64],
+    tol: f64,
+    numbers: &mut [f64],
+    nodes: &mut [u32],
+    ends: &mut [u32],
+) -> Section
+    ensures { Gave
+        (stitch_alone segments.now tol
+        (lengths (buffers numbers.old nodes.old ends.old)))
+        (told_in result) (buffers numbers.old nodes.old ends.old)
+        (buffers numbers.new nodes.new ends.new) }
+{
+    cicelybeam::cicelybeam_stitch(segments, tol, numbers, nodes, ends)
+}
+
+// The tolerance of a mesh in space, by its coordinates.
+#[unsafe(no_mangle)]
+pub extern "C" fn cicelybeam_tolerance_in_space(coords: &[f64]) -> Tolerance
+    ensures { told_tolerance_in result ≡ told_tolerance (tolerance_of 3 coords.now) }
+{
+    cicelybeam::cicelybeam_tolerance_in_space(coords)
+}
+
+// The tolerance of a mesh in the plane.
+#[unsafe(no_mangle)]
+pub extern "C" fn cicelybeam_tolerance_in_plane(coords: &[f64]) -> Tolerance
+    ensures { told_tolerance_in result ≡ told_tolerance (tolerance_of 2 coords.now) }
+{
+    cicelybeam::cicelybeam_tolerance_in_plane(coords)
+}
+
+// The square root as IEEE 754 has it.
+#[unsafe(no_mangle)]
+pub extern "C" fn cicelybeam_sqrt(x: f64) -> f64
+    ensures { result ≡ sqrt_of binary64 x }
+{
+    cicelybeam::cicelybeam_sqrt(x)
+}
