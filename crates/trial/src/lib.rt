@@ -1,5 +1,7 @@
 // For tests only: proved functions of the crates below, which are no part of Cicelybeam's interface, made callable from Rust. Each
 // export tests the lengths and refuses what does not fit; a slice passes as a pointer and a length.
+#![tactic(auto)]
+
 ghost use Rattle.std.specs.Prelude.{◌≡◌, [], ◌∷◌, ◌*◌, ◌/◌, ◌≤◌, length};
 ghost use Rattle.vector.specs.Rows.{put, row};
 ghost use Rattle.vector.specs.Vector.{line_of, normal_along, plane_of, unit};

@@ -1,6 +1,5 @@
 -- `trial::plane_segments` meets its contract. Assumes nothing.
 use Rattle.trial.proofs.Trial.{clips_by_rows}
-use borrow.Author.Rules.{rules}
 use Rattle.trial.proofs.plane_segments.Goals as goal
 
 pub returns : goal.returns

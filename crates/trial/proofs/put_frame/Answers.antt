@@ -2,7 +2,6 @@
 use mathlib.Core.Path.{ap}
 use Rattle.vector.specs.View.{frame_of, placed}
 use Rattle.trial.proofs.Trial.{frame_written}
-use borrow.Author.Rules.{rules}
 use Rattle.trial.proofs.put_frame.Goals as goal
 
 pub returns : goal.returns

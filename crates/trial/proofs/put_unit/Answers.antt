@@ -2,7 +2,6 @@
 use mathlib.Core.Path.{ap}
 use Rattle.vector.specs.View.{unit2, vec2}
 use Rattle.trial.proofs.Trial.{unit_written}
-use borrow.Author.Rules.{rules}
 use Rattle.trial.proofs.put_unit.Goals as goal
 
 pub returns : goal.returns

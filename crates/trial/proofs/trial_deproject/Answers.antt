@@ -3,7 +3,6 @@ use mathlib.Core.Path.{refl}
 use mathlib.Core.List.{[], ◌∷◌}
 use native.Mathlib.Omega.{arith}
 use Rattle.trial.proofs.Trial.{it_fits, it_does_not_fit, deprojected_by_rows}
-use borrow.Author.Rules.{rules}
 use Rattle.trial.proofs.trial_deproject.Goals as goal
 
 pub returns-then-rows-lt9 : goal.returns-then-rows-lt9

@@ -3,7 +3,6 @@ use mathlib.Core.Path.{refl}
 use native.Mathlib.Omega.{arith}
 use Rattle.vector.specs.Vector.{line_of}
 use Rattle.trial.proofs.Trial.{frame_by_rows, it_fits, it_does_not_fit}
-use borrow.Author.Rules.{rules}
 use Rattle.trial.proofs.trial_line_frame.Goals as goal
 
 pub returns-then-placed-lt6 : goal.returns-then-placed-lt6

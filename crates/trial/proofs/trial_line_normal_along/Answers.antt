@@ -2,7 +2,6 @@
 use mathlib.Core.Path.{refl}
 use native.Mathlib.Omega.{arith}
 use Rattle.trial.proofs.Trial.{unit_by, it_fits, it_does_not_fit}
-use borrow.Author.Rules.{rules}
 use Rattle.trial.proofs.trial_line_normal_along.Goals as goal
 
 pub returns-then-out-lt2 : goal.returns-then-out-lt2

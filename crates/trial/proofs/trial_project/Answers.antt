@@ -2,7 +2,6 @@
 use mathlib.Core.Path.{refl}
 use native.Mathlib.Omega.{arith}
 use Rattle.trial.proofs.Trial.{it_fits, it_does_not_fit, projected_by_rows}
-use borrow.Author.Rules.{rules}
 use Rattle.trial.proofs.trial_project.Goals as goal
 
 pub returns-then-rows-lt12 : goal.returns-then-rows-lt12

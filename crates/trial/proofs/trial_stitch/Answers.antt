@@ -2,7 +2,6 @@
 use mathlib.Core.Path.{refl}
 use native.Mathlib.Omega.{arith}
 use Rattle.trial.proofs.Trial.{it_fits, it_does_not_fit}
-use borrow.Author.Rules.{rules}
 use Rattle.trial.proofs.trial_stitch.Goals as goal
 
 pub returns-then-s-gt384 : goal.returns-then-s-gt384
