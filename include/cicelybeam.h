@@ -1,6 +1,6 @@
 /* Cicelybeam: one cell of a finite-element mesh, cut by a plane or a line, and the mesh tolerance.
  *
- * Link with target/staticlib/libcicelybeam.a (made by `rt staticlib cicelybeam`), which needs memcpy and
+ * Link with target/staticlib/libcicelybeam.a (made by `tools/staticlib cicelybeam`), which needs memcpy and
  * memset of the C library and nothing else. Every function is proved to return, to read only what it is
  * lent and to write only what its answer says, for any numbers at all, NaN and infinities included. None
  * allocates, and none keeps anything from call to call, so any threads may call at once.
