@@ -1,4 +1,6 @@
 // Cicelybeam as the crate cicelybeam_c gives it to C and Rust: thin functions over the proved entries.
+#![tactic(auto)]
+
 ghost use Rattle.std.specs.Prelude.{◌≡◌, ◌<◌, length};
 ghost use Rattle.std.specs.Float.{binary64};
 ghost use Rattle.root.specs.Root.{sqrt_of};

@@ -5,7 +5,6 @@ use Rattle.cell.specs.Read.{cell}
 use Rattle.cuts.specs.Cuts.{through}
 use Rattle.gather.proofs.Claims.{gather_few}
 use Rattle.cicelybeam.proofs.Exports.{line_small, line_retold}
-use borrow.Author.Rules.{rules}
 use Rattle.cicelybeam.proofs.cicelybeam_gather.Goals as goal
 
 pub told_line-requires : goal.told_line-requires

@@ -4,7 +4,6 @@ use Rattle.stitch.specs.Entry.{buffers, lengths}
 use Rattle.cuts.specs.Cuts.{through}
 use Rattle.plane_cut.proofs.Claims.{plane_small}
 use Rattle.cicelybeam.proofs.Exports.{retold, told_small}
-use borrow.Author.Rules.{rules}
 use Rattle.cicelybeam.proofs.cicelybeam_plane.Goals as goal
 
 pub told_section-requires : goal.told_section-requires

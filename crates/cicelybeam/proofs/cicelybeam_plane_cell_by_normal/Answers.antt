@@ -6,7 +6,6 @@ use Rattle.cuts.specs.Cuts.{through}
 use Rattle.cuts.specs.declared.Way.TheVariants.{Normal}
 use Rattle.plane_cell.proofs.Claims.{plane_cell_sound}
 use Rattle.cicelybeam.proofs.Exports.{line_small, line_retold}
-use borrow.Author.Rules.{rules}
 use Rattle.cicelybeam.proofs.cicelybeam_plane_cell_by_normal.Goals as goal
 
 pub told_line-requires : goal.told_line-requires

@@ -2,7 +2,6 @@
 use Rattle.stitch.specs.Entry.{buffers, lengths}
 use Rattle.stitch.proofs.Entries.{stitch_small}
 use Rattle.cicelybeam.proofs.Exports.{retold, told_small}
-use borrow.Author.Rules.{rules}
 use Rattle.cicelybeam.proofs.cicelybeam_stitch.Goals as goal
 
 pub told_section-requires : goal.told_section-requires

@@ -1,6 +1,5 @@
 -- `cicelybeam_tolerance_in_plane` meets its contract. Assumes nothing.
 use mathlib.Core.Path.{◌∙◌}
-use borrow.Author.Rules.{rules}
 use Rattle.cicelybeam.proofs.cicelybeam_tolerance_in_plane.Goals as goal
 
 pub returns : goal.returns

@@ -3,7 +3,6 @@ use native.Mathlib.Omega.{arith}
 use mathlib.Core.Path.{ap, subst, sym}
 use Prim.Native.Nat.{◌<◌}
 use Rattle.cuts.specs.Lines.{line_told}
-use borrow.Author.Rules.{rules}
 use Rattle.cicelybeam.proofs.told_line.Goals as goal
 
 pub narrow-requires : goal.narrow-requires

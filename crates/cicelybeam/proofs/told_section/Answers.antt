@@ -1,7 +1,6 @@
 -- `told_section` meets its contract. Assumes nothing.
 use mathlib.Core.Path.{◌∙◌, ap, subst, sym}
 use Rattle.stitch.specs.Entry.{Small, section_told}
-use borrow.Author.Rules.{rules}
 use Rattle.cicelybeam.proofs.told_section.Goals as goal
 
 pub told_stitched-requires : goal.told_stitched-requires

@@ -1,5 +1,4 @@
 -- `told_stitched` meets its contract. Assumes nothing.
-use borrow.Author.Rules.{rules}
 use Rattle.cicelybeam.proofs.told_stitched.Goals as goal
 
 pub returns : goal.returns

@@ -1,7 +1,6 @@
 -- `told_tolerance` meets its contract. Assumes nothing.
 use mathlib.Core.Path.{ap, sym}
 use Rattle.vector.specs.Tolerance.{tolerance_told}
-use borrow.Author.Rules.{rules}
 use Rattle.cicelybeam.proofs.told_tolerance.Goals as goal
 
 pub returns-in-Refused : goal.returns-in-Refused

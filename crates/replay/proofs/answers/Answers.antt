@@ -1,5 +1,5 @@
 -- `replay::answers` is safe. Assumes nothing.
-use Rattle.std.proofs.Common.{arith, length-take, rules}
+use Rattle.std.proofs.Common.{arith, length-take}
 use Rattle.replay.proofs.answers.Goals as goal
 
 pub slice_bounds-answers_in-end : goal.slice_bounds-answers_in-end

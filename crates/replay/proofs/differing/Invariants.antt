@@ -1,5 +1,5 @@
 -- `replay::differing` is safe, and fewer records are left each time. Assumes nothing.
-use Rattle.std.proofs.Common.{◌≤◌, rules}
+use Rattle.std.proofs.Common.{◌≤◌}
 use Rattle.replay.proofs.differing.Given as goal
 
 abbrev pub invariant-loop-left : goal.invariant-loop-left

@@ -1,5 +1,5 @@
 -- `replay::main` is safe, and fewer groups are left each time. Assumes nothing.
-use Rattle.std.proofs.Common.{◌≤◌, rules}
+use Rattle.std.proofs.Common.{◌≤◌}
 use Rattle.replay.proofs.main.Given as goal
 
 abbrev pub invariant-loop-left : goal.invariant-loop-left

@@ -1,5 +1,5 @@
 -- `replay::same::at` meets its contract. Assumes nothing.
-use Rattle.std.proofs.Common.{sym, rules}
+use Rattle.std.proofs.Common.{sym}
 use Rattle.replay.proofs.Comparing.{recorded_at, none_beyond}
 use Rattle.replay.proofs.same.at.Goals as goal
 

@@ -1,6 +1,6 @@
 -- `replay::same::same_indices` meets its contract. The invariant: what stands before i is as recorded. Assumes nothing.
-use Rattle.std.proofs.Common.{◌≡◌, ◌-◌, ◌≤◌, leb, length, drop, sym, refl, ap, ◌∙◌, arith, rules}
-use Rattle.replay.specs.Same.{no_index, same}
+use Rattle.std.proofs.Common.{◌≡◌, leb, length, sym, refl, ap, ◌∙◌, arith}
+use Rattle.replay.specs.Same.{no_index}
 use Rattle.replay.proofs.Comparing.{same_stop, same_step, same_end}
 use Rattle.replay.proofs.same.same_indices.Goals as goal
 

@@ -1,7 +1,6 @@
 -- `replay::same::same_indices` meets its contract. The invariant: what stands before i is as recorded. Assumes nothing.
-use Rattle.std.proofs.Common.{◌≡◌, ◌-◌, ◌≤◌, leb, length, drop, sym, refl, ap, ◌∙◌, arith, rules}
+use Rattle.std.proofs.Common.{◌≡◌, ◌-◌, ◌≤◌, length, drop}
 use Rattle.replay.specs.Same.{no_index, same}
-use Rattle.replay.proofs.Comparing.{same_stop, same_step, same_end}
 use Rattle.replay.proofs.same.same_indices.Given as goal
 
 abbrev pub invariant-loop-i : goal.invariant-loop-i

@@ -1,7 +1,7 @@
 -- `replay::same::same_numbers` meets its contract. The invariant: what stands before i is as recorded. Assumes nothing.
-use Rattle.std.proofs.Common.{◌≡◌, ◌-◌, ◌≤◌, leb, length, drop, sym, refl, ap, ◌∙◌, arith, rules}
+use Rattle.std.proofs.Common.{◌≡◌, leb, length, sym, refl, ap, ◌∙◌, arith}
 use lib.Ieee.{nan}
-use Rattle.replay.specs.Same.{no_number, number_word, same}
+use Rattle.replay.specs.Same.{no_number, number_word}
 use Rattle.replay.proofs.Comparing.{same_stop, same_step, same_end}
 use Rattle.replay.proofs.same.same_numbers.Goals as goal
 

@@ -1,5 +1,5 @@
 -- `replay::word::from_bytes` is safe. Assumes nothing.
-use Rattle.std.proofs.Common.{◌≤◌, rules}
+use Rattle.std.proofs.Common.{◌≤◌}
 use Rattle.replay.proofs.word.from_bytes.Given as goal
 
 abbrev pub invariant-loop-k : goal.invariant-loop-k

@@ -1,5 +1,5 @@
 -- `replay::word::next_numbers` is safe: a store keeps the length. Assumes nothing.
-use Rattle.std.proofs.Common.{◌≡◌, ◌-◌, ◌≤◌, length, arith, length-set, length-take, rules}
+use Rattle.std.proofs.Common.{arith, length-set, length-take}
 use Rattle.replay.proofs.word.next_numbers.Goals as goal
 
 pub loop-i-preserved : goal.loop-i-preserved

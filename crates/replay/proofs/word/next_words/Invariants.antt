@@ -1,5 +1,5 @@
 -- `replay::word::next_words` is safe: a store keeps the length. Assumes nothing.
-use Rattle.std.proofs.Common.{◌≡◌, ◌-◌, ◌≤◌, length, arith, length-set, length-take, rules}
+use Rattle.std.proofs.Common.{◌≡◌, ◌-◌, ◌≤◌, length}
 use Rattle.replay.proofs.word.next_words.Given as goal
 
 abbrev pub invariant-loop-i : goal.invariant-loop-i

@@ -1,5 +1,5 @@
 -- `replay::word::number` is safe: past the test the pattern is no NaN's. Assumes nothing.
-use Rattle.std.proofs.Common.{◌*◌, ◌%◌, ◌^◌, Bool, not, T, sym, subst, rules}
+use Rattle.std.proofs.Common.{◌*◌, ◌%◌, ◌^◌, Bool, not, T, sym, subst}
 use lib.Arith.{le→nltb}
 use lib.Ieee.{binary64}
 use lib.Ieee.Bits.{nan_bits_above}
