@@ -1,4 +1,4 @@
-//! Links what `rt staticlib trial` writes, target/staticlib/libtrial.a. The entries come with the Rust crate.
+//! Links what `tools/staticlib trial` writes, target/staticlib/libtrial.a. The entries come with the Rust crate.
 
 use std::path::Path;
 
@@ -8,7 +8,7 @@ fn main() {
     let library = folder.join("libtrial.a");
     println!("cargo:rerun-if-changed={}", library.display());
     if !library.exists() {
-        eprintln!("target/staticlib/libtrial.a is missing: run `rt staticlib trial` first");
+        eprintln!("target/staticlib/libtrial.a is missing: run `tools/staticlib trial` first");
         std::process::exit(1);
     }
     println!("cargo:rustc-link-lib=static=trial");

@@ -1,6 +1,6 @@
 //! Links target/staticlib/libcicelybeam.a. Where that is missing, or older than a file under crates/, it is
-//! made first: `rt staticlib cicelybeam` in the root of the repository. Where CICELYBEAM_LIB_DIR names a
-//! folder, the library in there is linked as it is.
+//! made first, by tools/staticlib. Where CICELYBEAM_LIB_DIR names a folder, the library in there is linked
+//! as it is.
 
 use std::path::{Path, PathBuf};
 use std::process::Command;
@@ -28,7 +28,12 @@ fn main() {
 /// The folder of the repository's library, which is then up to date.
 fn made() -> PathBuf {
     let root = Path::new(env!("CARGO_MANIFEST_DIR")).join("..");
-    let sources = [root.join("crates"), root.join("crates.txt")];
+    let mut sources = vec![root.join("crates.txt")];
+    for part in ["src", "specs", "proofs"] {
+        let crates = fs::read_dir(root.join("crates"));
+        let parts = crates.into_iter().flatten().flatten().map(|e| e.path().join(part));
+        sources.extend(parts.filter(|path| path.exists()));
+    }
     for source in &sources {
         println!("cargo:rerun-if-changed={}", source.display());
     }
@@ -42,17 +47,17 @@ fn made() -> PathBuf {
 }
 
 fn make(root: &Path) {
-    let run = Command::new("rt")
-        .args(["staticlib", "cicelybeam"])
-        .current_dir(root)
+    let run = Command::new(root.join("tools/staticlib"))
+        .arg("cicelybeam")
         .status();
     match run {
         Ok(status) if status.success() => {}
-        Ok(status) => stop(&format!("`rt staticlib cicelybeam` failed ({status})")),
-        Err(why) => stop(&format!(
-            "target/staticlib/{LIBRARY} is missing or older than crates/, and rt, which makes it, cannot \
-             be run ({why}); CICELYBEAM_LIB_DIR may name the folder of a library to link as it is"
+        Ok(status) => stop(&format!(
+            "target/staticlib/{LIBRARY} is missing or older than crates/, and `tools/staticlib cicelybeam`, \
+             which makes it with rt, failed ({status}); CICELYBEAM_LIB_DIR may name the folder of a library \
+             to link as it is"
         )),
+        Err(why) => stop(&format!("tools/staticlib cannot be run ({why})")),
     }
 }
 

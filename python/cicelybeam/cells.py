@@ -160,7 +160,7 @@ def _segments_at_most(block: Block | Polyhedra, cells: np.ndarray, sides: Sides)
     A corner above tol or below -tol is on no segment, as a segment's ends are within tol of the plane by the rule's own
     distances, and these are the same for a corner wherever they are taken. So where all corners are above or below, the ends
     of segments are crossings: one for each change of side around the face. With two changes there are two crossings, hence
-    one segment at most, and a face without a change has none (theorem `left-out`). Each edge that a cell lists comes from a
+    one segment at most, and a face without a change has none (theorem `left_out`). Each edge that a cell lists comes from a
     segment, so a cell that lists as many edges as it has such faces has a segment of each of them.
     """
     if isinstance(block, Polyhedra):

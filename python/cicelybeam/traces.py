@@ -2,7 +2,7 @@
 
 Each face is handed over alone. By theorem `FaceByFace` (crates/gather/specs/Gather.antt) what its faces have, one after the
 other, is what the whole cell has. Faces and cells with all corners above the tolerance, or all below its negative, are left out:
-by theorem `left-out` (crates/clip/specs/Clear.antt) they have no segment.
+by theorem `left_out` (crates/clip/specs/Clear.antt) they have no segment.
 """
 from __future__ import annotations
 
