@@ -1,4 +1,6 @@
 // A cell's faces and corners: refusals 1 to 4 are tested first, and the corners of what is accepted are copied.
+#![tactic(auto)]
+
 pub mod types;
 
 ghost use Rattle.std.specs.Prelude.{◌≡◌, ◌+◌, ◌*◌, ◌/◌, ◌<◌, ◌≤◌, T, length, get_or, take};

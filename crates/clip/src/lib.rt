@@ -1,5 +1,7 @@
 // The section of a polygon by a plane in space or by a line in the plane: what both widths share. The polygons themselves are cut in
 // clip_space and clip_plane.
+#![tactic(auto)]
+
 ghost use Rattle.std.specs.Prelude.{◌≡◌, ◌&&◌, ◌||◌, cond, ◌+◌, ◌<◌, ◌≤◌, eqb, ltb, get_or, length};
 ghost use Rattle.std.specs.Float.{binary64, nan};
 ghost use Rattle.std.specs.Float.Ieee.{le, mul};

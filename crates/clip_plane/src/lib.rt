@@ -1,2 +1,4 @@
 // Polygons in the plane, cut by a line.
+#![tactic(auto)]
+
 pub mod polygon;

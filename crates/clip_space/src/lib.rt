@@ -1,4 +1,6 @@
 // The segments of a cell in space, face by face.
+#![tactic(auto)]
+
 ghost use Rattle.std.specs.Prelude.{◌++◌, map, ◌+◌, ◌*◌, ◌≤◌, length};
 ghost use Rattle.vector.specs.Rows.{segs};
 ghost use Rattle.vector.specs.View.{frame_of};

@@ -1,4 +1,6 @@
 // What all cuts share: placing, and the segments and the section of an accepted cell on a plane.
+#![tactic(auto)]
+
 ghost use Rattle.std.specs.Prelude.{◌≡◌};
 ghost use Rattle.vector.specs.View.{frame_of, placed, vec3};
 ghost use Rattle.cell.specs.Read.{cell, polygons_of, space_cell};

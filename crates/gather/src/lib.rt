@@ -1,4 +1,6 @@
 // The segments of a cell in space on a plane, before they are stitched.
+#![tactic(auto)]
+
 ghost use Rattle.std.specs.Prelude.{length};
 ghost use Rattle.cell.specs.Read.{cell};
 ghost use Rattle.cuts.specs.Cuts.{through};

@@ -1,4 +1,6 @@
 // A cell in space cut by a line. The answer is segments only.
+#![tactic(auto)]
+
 ghost use Rattle.std.specs.Prelude.{◌≡◌, ◌++◌, map, ◌*◌, ◌+◌, ◌≤◌, length};
 ghost use Rattle.vector.specs.View.{frame_of, vec2, vec3};
 ghost use Rattle.vector.specs.Rows.{rows, segs};

@@ -1,4 +1,6 @@
 // A cell in the plane cut by a line, by its normal or by its direction. The answer is segments only.
+#![tactic(auto)]
+
 ghost use Rattle.std.specs.Prelude.{◌≡◌, ◌≤◌, length};
 ghost use Rattle.vector.specs.View.{unit2, vec2};
 ghost use Rattle.cell.specs.Read.{cell, plane_cell, polygons_of};

@@ -1,4 +1,6 @@
 // A cell in space cut by a plane.
+#![tactic(auto)]
+
 ghost use Rattle.cell.specs.Read.{cell};
 ghost use Rattle.stitch.specs.Entry.{Gave, buffers, lengths, section_told};
 ghost use Rattle.cuts.specs.Cuts.{through};

@@ -6,7 +6,7 @@ use Rattle.root.specs.Root.{sqrt_of, Rounded, SquareRoot}
 use Rattle.root.proofs.Floor.{square_lt_back}
 use Rattle.root.proofs.Pack.{sqrt_of_at, units_fits}
 use Rattle.root.proofs.Steps.{four_is}
-use Rattle.root.proofs.Rounds.{mid, rounded, Root, root_of_rounds}
+use Rattle.root.proofs.Rounds.{mid, Root, root_of_rounds}
 use Rattle.root.proofs.Values.{grid, bounded, in_units}
 use Rattle.root.proofs.Nearer.{nearest_above, nearest_below}
 use Rattle.root.proofs.Ties.{next_over, next_under}

@@ -1,4 +1,6 @@
 // The square root of an f64 as IEEE 754 has it, to nearest with ties to even, worked out from the bits.
+#![tactic(auto)]
+
 ghost use Rattle.std.specs.Prelude.{◌≡◌, ◌+◌, ◌*◌, ◌^◌, ◌<◌, not, ◌&&◌, T, from_bits, nat_le, nat_lt};
 ghost use Rattle.std.specs.Float.{binary64};
 ghost use Rattle.std.specs.Float.Ieee.{nan_bits};

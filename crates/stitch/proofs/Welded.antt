@@ -17,7 +17,7 @@ use Rattle.stitch.specs.declared.Rule.{Rule}
 use Rattle.stitch.specs.declared.Tally.{Tally}
 use Rattle.stitch.specs.declared.Stitched.{Stitched}
 use Rattle.walk.specs.Walk.{walks}
-use Rattle.stitch.specs.Stitch.{loops, counts_of, Answer, stitched_within}
+use Rattle.stitch.specs.Stitch.{counts_of, Answer, stitched_within}
 use Rattle.stitch.specs.Claim.{Claim}
 use Rattle.walk.specs.Code.{Marked}
 use Rattle.stitch.specs.Code.{Spare, Wrote, Stitchable, Tables, AnswerGiven, cut, answer_in, Stitches}

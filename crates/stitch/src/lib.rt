@@ -1,4 +1,6 @@
 // Stitching: the loops among the walks along listed edges, and the counts of edges.
+#![tactic(auto)]
+
 pub mod alone;
 
 ghost use Rattle.std.specs.Prelude.{◌≡◌, cond, false, true, reverse, ◌*◌, ◌+◌, ◌<◌, ◌≤◌, get_or, length, replicate};

@@ -1,4 +1,6 @@
 // Numbers, points and vectors in the plane and in space, the cutting plane, rows of a flat slice, and the tolerance.
+#![tactic(auto)]
+
 ghost use Rattle.std.specs.Prelude.{◌≡◌, ◌&&◌, ◌+◌, ◌*◌, ◌<◌, ◌≤◌, length};
 ghost use Rattle.std.specs.Float.Ieee.{le};
 ghost use Rattle.vector.specs.Number.{abs};

@@ -1,4 +1,6 @@
 // The walk along listed edges: the junction's choice of the next edge, and the nodes that a walk reaches.
+#![tactic(auto)]
+
 ghost use Rattle.std.specs.Prelude.{◌≡◌, cond, false, not, true, ◌&&◌, ◌||◌, ◌*◌, ◌+◌, ◌<◌, ◌≤◌, eqb, get_or, length, replicate};
 ghost use Rattle.vector.specs.Rows.{rows};
 ghost use Rattle.vector.specs.View.{vec2};

@@ -1,4 +1,6 @@
 // Welding: the points that the ends of segments become, and the edges between them.
+#![tactic(auto)]
+
 ghost use Rattle.std.specs.Prelude.{◌≡◌, ◌+◌, ◌*◌, ◌^◌, ◌≤◌, ◌<◌, length, take};
 ghost use Rattle.vector.specs.Rows.{row, rows};
 ghost use Rattle.vector.specs.View.{vec2};

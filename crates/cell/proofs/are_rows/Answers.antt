@@ -1,8 +1,5 @@
 -- `are_rows` meets its contract. The invariant: the corners before j are rows. Assumes nothing.
-use mathlib.Core.Path.{◌≡◌, refl, sym, ◌∙◌}
-use Prim.Native.Nat.{◌-◌, ◌≤◌}
-use lib.ListN.{length, drop}
-use Rattle.cell.specs.Read.{are_rows}
+use mathlib.Core.Path.{refl, sym, ◌∙◌}
 use Rattle.cell.proofs.Inside.{below_at}
 use Rattle.cell.proofs.Gathering.{rows_stop, rows_step, rows_end}
 use native.Mathlib.Omega.{arith}

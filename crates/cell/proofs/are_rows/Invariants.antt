@@ -1,11 +1,8 @@
 -- `are_rows` meets its contract. The invariant: the corners before j are rows. Assumes nothing.
-use mathlib.Core.Path.{◌≡◌, refl, sym, ◌∙◌}
+use mathlib.Core.Path.{◌≡◌}
 use Prim.Native.Nat.{◌-◌, ◌≤◌}
 use lib.ListN.{length, drop}
 use Rattle.cell.specs.Read.{are_rows}
-use Rattle.cell.proofs.Inside.{below_at}
-use Rattle.cell.proofs.Gathering.{rows_stop, rows_step, rows_end}
-use native.Mathlib.Omega.{arith}
 use Rattle.cell.proofs.are_rows.Given as goal
 
 abbrev pub invariant-loop-j : goal.invariant-loop-j

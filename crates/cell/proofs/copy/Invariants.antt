@@ -1,10 +1,8 @@
 -- `copy` meets its contract. The invariant: the first j numbers are copied. Assumes nothing.
-use mathlib.Core.Path.{◌≡◌, refl, ap, ◌∙◌}
+use mathlib.Core.Path.{◌≡◌}
 use Prim.Native.Nat.{◌-◌, ◌≤◌}
-use native.Mathlib.Numerals.{add-one}
-use lib.ListN.{length, length-set}
-use lib.Seq.{paste, paste-zero, paste-suc}
-use native.Mathlib.Omega.{arith}
+use lib.ListN.{length}
+use lib.Seq.{paste}
 use Rattle.cell.proofs.copy.Given as goal
 
 abbrev pub invariant-loop-j : goal.invariant-loop-j

@@ -4,7 +4,6 @@ use mathlib.Core.List.{flatten}
 use Rattle.rows.specs.Rows.{ends_from}
 use Rattle.cell.specs.Faces.{tet, wedge, hex}
 use Rattle.cell.proofs.Accepted.{puts}
-use borrow.Author.Rules.{rules}
 use Rattle.cell.proofs.copy_faces.Goals as goal
 
 pub put_faces-requires : goal.put_faces-requires

@@ -2,7 +2,6 @@
 use mathlib.Core.Path.{sym}
 use lib.Seq.{length-take-le}
 use Rattle.cell.proofs.Accepted.{puts}
-use borrow.Author.Rules.{rules}
 use Rattle.cell.proofs.copy_phed.Goals as goal
 
 pub slice_bounds-put_faces-end : goal.slice_bounds-put_faces-end

@@ -1,7 +1,6 @@
 -- `copy_plane_cell` meets its contract: an accepted cell has what copying needs. Assumes nothing.
 use Rattle.cell.specs.Read.{cell}
 use Rattle.cell.proofs.Accepted.{copies_plane, plane-polygons}
-use borrow.Author.Rules.{rules}
 use Rattle.cell.proofs.copy_plane_cell.Goals as goal
 
 pub copy_polygon-requires : goal.copy_polygon-requires

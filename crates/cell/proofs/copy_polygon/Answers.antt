@@ -1,10 +1,8 @@
 -- `copy_polygon` meets its contract: the positions lent are those of the definition's polygon. Assumes nothing.
-use mathlib.Core.Path.{refl, sym, ◌∙◌}
-use lib.Seq.{length-take-le}
+use mathlib.Core.Path.{refl, ◌∙◌}
 use Rattle.cell.specs.Faces.{from, polygon_of}
 use Rattle.cell.proofs.Accepted.{copies_at, corners_copied}
 use Rattle.cell.proofs.Polygon.{polygon_taken}
-use borrow.Author.Rules.{rules}
 use Rattle.cell.proofs.copy_polygon.Goals as goal
 
 pub copy_rows-requires : goal.copy_rows-requires

@@ -1,10 +1,10 @@
 -- `copy_rows` meets its contract. The invariant: the first j corners' rows are written. Assumes nothing.
 use mathlib.Core.Path.{sym, ap, subst}
-use Prim.Native.Nat.{◌+◌, ◌-◌, ◌*◌, ◌/◌, ◌≤◌, ◌<◌}
+use Prim.Native.Nat.{◌+◌, ◌*◌, ◌/◌, ◌≤◌, ◌<◌}
 use lib.ListN.{length}
 use Rattle.cell.proofs.Inside.{below_at}
 use Rattle.cell.proofs.Gathering.{row_at, one_more, row_fits, row_length, row_is}
-use Rattle.cell.proofs.Gathering.{Filling, filling_start, filling_step, filling_end}
+use Rattle.cell.proofs.Gathering.{filling_start, filling_step, filling_end}
 use native.Mathlib.Omega.{arith}
 use Rattle.cell.proofs.copy_rows.Goals as goal
 use Rattle.cell.proofs.copy_rows.Goals.{After-node}

@@ -1,7 +1,6 @@
 -- `copy_space_cell` meets its contract: an accepted cell has what copying needs. Assumes nothing.
 use Rattle.cell.specs.Read.{cell}
 use Rattle.cell.proofs.Accepted.{copies_space, space_polygons}
-use borrow.Author.Rules.{rules}
 use Rattle.cell.proofs.copy_space_cell.Goals as goal
 
 pub copy_faces-requires : goal.copy_faces-requires

@@ -1,8 +1,6 @@
 -- `list_pgon` meets its contract. The invariant: the first i positions are listed. Assumes nothing.
-use mathlib.Core.Path.{◌≡◌, ◌∙◌}
-use Prim.Native.Nat.{◌-◌, ◌≤◌}
-use lib.ListN.{length, take, length-set}
-use Rattle.cell.specs.Faces.{from}
+use mathlib.Core.Path.{◌∙◌}
+use lib.ListN.{length-set}
 use Rattle.cell.proofs.Polygon.{from_start, from_step, from_end}
 use native.Mathlib.Omega.{arith}
 use Rattle.cell.proofs.list_pgon.Goals as goal

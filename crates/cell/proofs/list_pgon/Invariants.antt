@@ -1,10 +1,8 @@
 -- `list_pgon` meets its contract. The invariant: the first i positions are listed. Assumes nothing.
-use mathlib.Core.Path.{◌≡◌, ◌∙◌}
+use mathlib.Core.Path.{◌≡◌}
 use Prim.Native.Nat.{◌-◌, ◌≤◌}
-use lib.ListN.{length, take, length-set}
+use lib.ListN.{length, take}
 use Rattle.cell.specs.Faces.{from}
-use Rattle.cell.proofs.Polygon.{from_start, from_step, from_end}
-use native.Mathlib.Omega.{arith}
 use Rattle.cell.proofs.list_pgon.Given as goal
 
 abbrev pub invariant-loop-i : goal.invariant-loop-i

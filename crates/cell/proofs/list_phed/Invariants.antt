@@ -1,8 +1,7 @@
 -- `list_phed` meets its contract. The invariant: the entries before i are listed, the last face being open. Assumes nothing.
 use Prim.Native.Nat.{◌-◌}
 use lib.ListN.{length}
-use Rattle.cell.proofs.Polyhedron.{Going, begin, node, short, whole, end_short, end_whole}
-use native.Mathlib.Omega.{arith}
+use Rattle.cell.proofs.Polyhedron.{Going}
 use Rattle.cell.proofs.list_phed.Given as goal
 
 abbrev pub invariant-loop-i : goal.invariant-loop-i

@@ -1,6 +1,5 @@
 -- `put_faces` meets its contract. Assumes nothing.
 use Rattle.cell.proofs.Accepted.{copied}
-use borrow.Author.Rules.{rules}
 use Rattle.cell.proofs.put_faces.Goals as goal
 
 pub returns : goal.returns

@@ -1,6 +1,5 @@
 -- `test_corners` meets its contract. Assumes nothing.
 use mathlib.Core.Path.{sym, ◌∙◌}
-use borrow.Author.Rules.{rules}
 use Rattle.cell.proofs.test_corners.Goals as goal
 
 pub returns-then-are_rows : goal.returns-then-are_rows

@@ -1,6 +1,5 @@
 -- `test_faces` meets its contract: the tables are the definition's faces in a row. Assumes nothing.
 use mathlib.Core.List.{flatten}
-use borrow.Author.Rules.{rules}
 use Rattle.cell.proofs.test_faces.Goals as goal
 
 pub test_corners-requires : goal.test_corners-requires

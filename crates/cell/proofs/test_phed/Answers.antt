@@ -4,7 +4,6 @@ use lib.Dec.{T}
 use lib.ListN.{length}
 use lib.Seq.{length-take-le}
 use Rattle.cell.specs.Code.{below, corners_tested}
-use borrow.Author.Rules.{rules}
 use Rattle.cell.proofs.test_phed.Goals as goal
 
 pub slice_bounds-test_corners-end : goal.slice_bounds-test_corners-end

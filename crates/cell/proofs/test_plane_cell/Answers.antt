@@ -1,17 +1,14 @@
 -- `test_plane_cell` meets its contract: the refusals in order, by the laws that both widths share. Assumes nothing.
 use mathlib.Core.Path.{◌≡◌, sym, ap, ◌∙◌}
 use mathlib.Core.Bool.{true}
-use borrow.Author.Tests.{not-true, not-false}
 use lib.ListN.{length}
 use Rattle.cell.specs.Types.{allow, plane_type, plane_nodes, plane_corners}
 use Rattle.cell.specs.Faces.{polygon_of}
 use Rattle.cell.specs.Read.{typed_in_plane, typed}
-use Rattle.cell.specs.declared.types.PlaneType.{PlaneType}
 use Rattle.cell.specs.declared.types.InPlane.TheVariants.{Known}
 use Rattle.cell.proofs.Accepted.{faces_told, tells}
 use Rattle.cell.proofs.Bounds.{corners_within, plane_few}
 use Rattle.cell.proofs.Answers.{unknown_type, wrong_nodes, wrong_coordinates, counts_right}
-use borrow.Author.Rules.{rules}
 use Rattle.cell.proofs.test_plane_cell.Goals as goal
 use Rattle.cell.proofs.test_plane_cell.Goals.{After-allow, Else-not-allow}
 

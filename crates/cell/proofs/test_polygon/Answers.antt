@@ -1,10 +1,8 @@
 -- `test_polygon` meets its contract: the positions lent are those of the definition's polygon. Assumes nothing.
-use mathlib.Core.Path.{refl, sym, ap, ◌∙◌}
-use lib.Seq.{length-take-le}
+use mathlib.Core.Path.{refl, ap, ◌∙◌}
 use Rattle.cell.specs.Faces.{from}
 use Rattle.cell.specs.Code.{corners_tested}
 use Rattle.cell.proofs.Polygon.{listed_below, polygon_taken}
-use borrow.Author.Rules.{rules}
 use Rattle.cell.proofs.test_polygon.Goals as goal
 
 pub test_corners-requires : goal.test_corners-requires

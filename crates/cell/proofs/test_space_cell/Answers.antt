@@ -1,16 +1,13 @@
 -- `test_space_cell` meets its contract: the refusals in order, by the laws that both widths share. Assumes nothing.
 use mathlib.Core.Path.{◌≡◌, sym, ap, ◌∙◌}
 use mathlib.Core.Bool.{true}
-use borrow.Author.Tests.{not-true, not-false}
 use lib.ListN.{length}
 use Rattle.cell.specs.Types.{allow, space_type, space_nodes, shape_of}
 use Rattle.cell.specs.Faces.{faces_of}
 use Rattle.cell.specs.Read.{typed_in_space, typed}
-use Rattle.cell.specs.declared.types.SpaceType.{SpaceType}
 use Rattle.cell.specs.declared.types.InSpace.TheVariants.{Known}
 use Rattle.cell.proofs.Accepted.{faces_told, testable, tells}
 use Rattle.cell.proofs.Answers.{unknown_type, wrong_nodes, wrong_coordinates, counts_right}
-use borrow.Author.Rules.{rules}
 use Rattle.cell.proofs.test_space_cell.Goals as goal
 use Rattle.cell.proofs.test_space_cell.Goals.{After-allow, Else-not-allow}
 

@@ -1,6 +1,5 @@
 -- `clip::count_if` meets its contract. Assumes nothing.
 use native.Mathlib.Omega.{arith}
-use borrow.Author.Rules.{rules}
 use Rattle.clip.proofs.count_if.Goals as goal
 
 pub returns-then-test : goal.returns-then-test

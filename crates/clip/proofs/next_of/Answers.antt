@@ -1,6 +1,5 @@
 -- `clip::next_of` meets its contract. Assumes nothing.
 use borrow.Author.Tests.{lt-ltb, le-ltb}
-use borrow.Author.Rules.{rules}
 use Rattle.clip.proofs.next_of.Goals as goal
 
 pub returns-then-i-n : goal.returns-then-i-n

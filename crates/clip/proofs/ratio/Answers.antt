@@ -4,7 +4,6 @@ use mathlib.Core.Bool.{true}
 use lib.Ieee.{lt, of_bits}
 use Rattle.vector.specs.Number.{least}
 use Rattle.clip.specs.Clip.{ratio}
-use borrow.Author.Rules.{rules}
 use Rattle.clip.proofs.ratio.Goals as goal
 
 pub returns-then-absolute : goal.returns-then-absolute

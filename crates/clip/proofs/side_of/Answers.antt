@@ -1,7 +1,6 @@
 -- `clip::side_of` meets its contract. Assumes nothing.
 use mathlib.Core.Path.{refl}
 use lib.Ieee.{neg, of_bits}
-use borrow.Author.Rules.{rules}
 use borrow.Author.Tests.{le-ltb, lt-ltb}
 use Rattle.clip.proofs.side_of.Goals as goal
 

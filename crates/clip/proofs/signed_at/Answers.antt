@@ -1,5 +1,4 @@
 -- `clip::signed_at` meets its contract. Assumes nothing.
-use borrow.Author.Rules.{rules}
 use borrow.Author.Tests.{le-ltb, lt-ltb}
 use lib.ListN.{length}
 use Rattle.clip.proofs.signed_at.Goals as goal

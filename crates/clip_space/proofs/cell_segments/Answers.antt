@@ -1,13 +1,12 @@
 -- `clip_space::cell_segments` meets its contract. Assumes nothing.
 -- The invariant: the segments listed, with those of the faces left, make the cell's.
-use mathlib.Core.Path.{◌≡◌, refl, ◌∙◌}
+use mathlib.Core.Path.{refl, ◌∙◌}
 use Prim.Native.Nat.{◌-◌, ◌*◌, ◌≤◌}
 use native.Mathlib.Omega.{arith}
 use lib.ListN.{length, get_or, take, drop, length-drop, length-take}
-use borrow.Author.Rules.{rules}
 use Rattle.vector.specs.View.{frame_of}
 use Rattle.clip.specs.Cell.{cut_by}
-use Rattle.clip.proofs.Faces.{Gathering, face_from, face_points, face_space, face_to, gathering_end, gathering_start, gathering_step}
+use Rattle.clip.proofs.Faces.{face_from, face_points, face_space, face_to, gathering_end, gathering_start, gathering_step}
 use Rattle.clip.proofs.Section.{section_count}
 use Rattle.clip_space.proofs.cell_segments.Goals as goal
 use Rattle.clip_space.proofs.cell_segments.Goals.{After-shared_slice_known-in-loop-i-1}

@@ -1,14 +1,11 @@
 -- `clip_space::cell_segments` meets its contract. Assumes nothing.
 -- The invariant: the segments listed, with those of the faces left, make the cell's.
-use mathlib.Core.Path.{◌≡◌, refl, ◌∙◌}
-use Prim.Native.Nat.{◌-◌, ◌*◌, ◌≤◌}
-use native.Mathlib.Omega.{arith}
-use lib.ListN.{length, get_or, take, drop, length-drop, length-take}
-use borrow.Author.Rules.{rules}
+use mathlib.Core.Path.{◌≡◌}
+use Prim.Native.Nat.{◌-◌}
+use lib.ListN.{length}
 use Rattle.vector.specs.View.{frame_of}
 use Rattle.clip.specs.Cell.{cut_by}
-use Rattle.clip.proofs.Faces.{Gathering, face_from, face_points, face_space, face_to, gathering_end, gathering_start, gathering_step}
-use Rattle.clip.proofs.Section.{section_count}
+use Rattle.clip.proofs.Faces.{Gathering}
 use Rattle.clip_space.proofs.cell_segments.Given as goal
 
 abbrev pub invariant-loop-i : goal.invariant-loop-i

@@ -1,13 +1,11 @@
 -- `clip_space::project_segments` meets its contract. Assumes nothing.
 -- The invariant: the segments passed stand after those that were there.
 use mathlib.Core.Path.{refl, ◌∙◌}
-use Prim.Native.Nat.{◌-◌}
 use native.Mathlib.Omega.{arith}
-use borrow.Author.Rules.{rules}
 use Rattle.vector.specs.Vector.{project}
 use Rattle.vector.specs.View.{frame_of}
 use Rattle.clip.specs.Cell.{project_seg}
-use Rattle.clip.proofs.Carrying.{Carrying, by_ends, carrying_end, carrying_start, carrying_step}
+use Rattle.clip.proofs.Carrying.{by_ends, carrying_end, carrying_start, carrying_step}
 use Rattle.clip_space.proofs.project_segments.Goals as goal
 
 pub loop-i-init : goal.loop-i-init

@@ -1,13 +1,9 @@
 -- `clip_space::project_segments` meets its contract. Assumes nothing.
 -- The invariant: the segments passed stand after those that were there.
-use mathlib.Core.Path.{refl, ◌∙◌}
 use Prim.Native.Nat.{◌-◌}
-use native.Mathlib.Omega.{arith}
-use borrow.Author.Rules.{rules}
-use Rattle.vector.specs.Vector.{project}
 use Rattle.vector.specs.View.{frame_of}
 use Rattle.clip.specs.Cell.{project_seg}
-use Rattle.clip.proofs.Carrying.{Carrying, by_ends, carrying_end, carrying_start, carrying_step}
+use Rattle.clip.proofs.Carrying.{Carrying}
 use Rattle.clip_space.proofs.project_segments.Given as goal
 
 abbrev pub invariant-loop-i : goal.invariant-loop-i

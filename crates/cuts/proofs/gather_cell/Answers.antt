@@ -2,7 +2,6 @@
 use native.Mathlib.Omega.{arith}
 use Rattle.cell.specs.Read.{cell}
 use Rattle.cuts.proofs.Sizes.{any_within, fixed_within, phed_within}
-use borrow.Author.Rules.{rules}
 use Rattle.cuts.proofs.gather_cell.Goals as goal
 
 pub gather_fixed-requires : goal.gather_fixed-requires

@@ -3,7 +3,6 @@ use mathlib.Core.Path.{◌∙◌, ap, sym}
 use Rattle.vector.specs.View as view
 use Rattle.cuts.specs.Cuts.{frame_by, frame_in, through}
 use Rattle.cuts.proofs.Placed.{origin_long, vector_long, frame_made}
-use borrow.Author.Rules.{rules}
 use Rattle.cuts.proofs.place.Goals as goal
 
 pub returns-then-origin-ne3 : goal.returns-then-origin-ne3

@@ -1,5 +1,4 @@
 -- `plane_by` meets its contract. Assumes nothing.
-use borrow.Author.Rules.{rules}
 use Rattle.cuts.proofs.plane_by.Goals as goal
 
 pub returns-in-Normal : goal.returns-in-Normal

@@ -2,7 +2,6 @@
 use native.Mathlib.Omega.{arith}
 use Rattle.cell.specs.Read.{cell}
 use Rattle.cuts.proofs.Sizes.{any_within, fixed_within, phed_within}
-use borrow.Author.Rules.{rules}
 use Rattle.cuts.proofs.section_cell.Goals as goal
 
 pub section_fixed-requires : goal.section_fixed-requires

@@ -7,7 +7,6 @@ use Rattle.vector.specs.View.{frame_of}
 use Rattle.line_cut.specs.LineCut.{segment_on_line}
 use Rattle.cuts.proofs.Answers.{segments_same}
 use Rattle.line_cut.proofs.LoopsCut.{loop_few, loop_segments_lem}
-use borrow.Author.Rules.{rules}
 use Rattle.line_cut.proofs.cut_loop.Goals as goal
 
 pub put_on_line-requires : goal.put_on_line-requires

@@ -1,12 +1,9 @@
 -- `cut_loops` meets its contract. Assumes nothing.
-use mathlib.Core.Path.{◌≡◌, refl, ◌∙◌}
-use Prim.Native.Nat.{◌-◌}
+use mathlib.Core.Path.{refl, ◌∙◌}
 use native.Mathlib.Omega.{arith}
-use lib.ListN.{length}
 use Rattle.vector.specs.View.{frame_of}
 use Rattle.vector.specs.Rows.{rows}
-use Rattle.line_cut.proofs.LoopsCut.{LoopsCut, loop_from, loop_ready, loop_to, loops_end, loops_start, loops_step}
-use borrow.Author.Rules.{rules}
+use Rattle.line_cut.proofs.LoopsCut.{loop_from, loop_ready, loop_to, loops_end, loops_start, loops_step}
 use Rattle.line_cut.proofs.cut_loops.Goals as goal
 
 pub loop-i-init : goal.loop-i-init

@@ -1,12 +1,10 @@
 -- `cut_loops` meets its contract. Assumes nothing.
-use mathlib.Core.Path.{◌≡◌, refl, ◌∙◌}
+use mathlib.Core.Path.{◌≡◌}
 use Prim.Native.Nat.{◌-◌}
-use native.Mathlib.Omega.{arith}
 use lib.ListN.{length}
 use Rattle.vector.specs.View.{frame_of}
 use Rattle.vector.specs.Rows.{rows}
-use Rattle.line_cut.proofs.LoopsCut.{LoopsCut, loop_from, loop_ready, loop_to, loops_end, loops_start, loops_step}
-use borrow.Author.Rules.{rules}
+use Rattle.line_cut.proofs.LoopsCut.{LoopsCut}
 use Rattle.line_cut.proofs.cut_loops.Given as goal
 
 abbrev pub invariant-loop-i : goal.invariant-loop-i

@@ -1,7 +1,6 @@
 -- `line_cell` meets its contract: the tiers fit. Assumes nothing.
 use Rattle.cell.specs.Read.{cell}
 use Rattle.cuts.proofs.Sizes.{any_within, fixed_within}
-use borrow.Author.Rules.{rules}
 use Rattle.line_cut.proofs.line_cell.Goals as goal
 
 pub line_fixed-requires : goal.line_fixed-requires

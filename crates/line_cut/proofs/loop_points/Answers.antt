@@ -1,12 +1,9 @@
 -- `loop_points` meets its contract. Assumes nothing.
-use borrow.Author.Rules.{rules}
 use mathlib.Core.Path.{refl}
-use Prim.Native.Nat.{◌-◌}
 use native.Mathlib.Omega.{arith}
-use lib.ListN.{length}
 use Rattle.vector.specs.Rows.{rows}
 use Rattle.walk.proofs.Buffers.{point_is}
-use Rattle.line_cut.proofs.Corners.{Listing, listing_end, listing_start, listing_step}
+use Rattle.line_cut.proofs.Corners.{listing_end, listing_start, listing_step}
 use Rattle.line_cut.proofs.loop_points.Goals as goal
 
 pub loop-i-init : goal.loop-i-init

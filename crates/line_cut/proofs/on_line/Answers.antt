@@ -2,7 +2,6 @@
 use mathlib.Core.Path.{ap, ◌∙◌}
 use Rattle.vector.specs.View.{vec3}
 use Rattle.vector.specs.Vector.{plus}
-use borrow.Author.Rules.{rules}
 use Rattle.line_cut.proofs.on_line.Goals as goal
 
 pub returns : goal.returns

@@ -1,11 +1,9 @@
 -- `put_on_line` meets its contract. Assumes nothing.
-use borrow.Author.Rules.{rules}
 use mathlib.Core.Path.{◌∙◌, refl}
-use Prim.Native.Nat.{◌-◌}
 use native.Mathlib.Omega.{arith}
 use Rattle.vector.specs.View.{frame_of}
 use Rattle.line_cut.specs.LineCut.{on_line, segment_on_line}
-use Rattle.clip.proofs.Carrying.{Carrying, carrying_end, carrying_start, carrying_step, by_ends}
+use Rattle.clip.proofs.Carrying.{carrying_end, carrying_start, carrying_step, by_ends}
 use Rattle.line_cut.proofs.put_on_line.Goals as goal
 
 pub loop-i-init : goal.loop-i-init

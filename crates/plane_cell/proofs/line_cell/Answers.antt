@@ -2,7 +2,6 @@
 use native.Mathlib.Omega.{arith}
 use Rattle.cell.specs.Read.{cell}
 use Rattle.plane_cell.proofs.Polygons.{few_corners}
-use borrow.Author.Rules.{rules}
 use Rattle.plane_cell.proofs.line_cell.Goals as goal
 
 pub line_large-requires : goal.line_large-requires

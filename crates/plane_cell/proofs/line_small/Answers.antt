@@ -3,7 +3,6 @@ use Rattle.cell.specs.Read.{cell}
 use Rattle.clip_plane.specs.View.{cut2}
 use Rattle.cuts.proofs.Answers.{segments_same}
 use Rattle.plane_cell.proofs.Polygons.{copied_segments}
-use borrow.Author.Rules.{rules}
 use Rattle.plane_cell.proofs.line_small.Goals as goal
 
 pub returns : goal.returns

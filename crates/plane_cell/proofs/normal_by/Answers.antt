@@ -1,5 +1,4 @@
 -- `normal_by` meets its contract. Assumes nothing.
-use borrow.Author.Rules.{rules}
 use Rattle.plane_cell.proofs.normal_by.Goals as goal
 
 pub returns-in-Normal : goal.returns-in-Normal

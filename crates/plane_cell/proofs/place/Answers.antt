@@ -5,7 +5,6 @@ use Rattle.cuts.specs.Cuts.{through}
 use Rattle.cuts.proofs.Placed.{origin_long, vector_long, whole_row}
 use Rattle.plane_cell.specs.PlaneCell.{line_with, normal_by}
 use Rattle.plane_cell.proofs.Lines.{line_made}
-use borrow.Author.Rules.{rules}
 use Rattle.plane_cell.proofs.place.Goals as goal
 
 pub returns-then-origin-ne2 : goal.returns-then-origin-ne2

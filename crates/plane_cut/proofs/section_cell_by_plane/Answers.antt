@@ -1,15 +1,9 @@
 -- `section_cell_by_plane` meets its contract: the cell is tested, the plane placed, the room looked at, and then nothing is refused.
 -- Assumes nothing.
-use mathlib.Core.List.{List}
 use mathlib.Core.Path.{◌∙◌, ap, sym}
-use Prim.Native.Nat.{ℕ}
 use native.Mathlib.Omega.{arith}
-use borrow.Author.Tests.{not-true, not-false}
-use Rattle.rows.specs.Outcome.{Outcome}
 use Rattle.rows.proofs.Outcomes.{test_failed, test_passed}
-use Rattle.vector.specs.Vector.{Frame}
-use Rattle.cell.specs.Read.{Polygon, cell}
-use Rattle.stitch.specs.Stitch.{Answer}
+use Rattle.cell.specs.Read.{cell}
 use Rattle.stitch.specs.Entry.{buffers, lengths}
 use Rattle.stitch.proofs.Entries.{gave_refusal, gave_section}
 use Rattle.cuts.specs.Cuts.{place_in, through}
@@ -18,7 +12,6 @@ use Rattle.cuts.specs.declared.Way.TheVariants.{Normal}
 use Rattle.cuts.proofs.Cutting.{at_work, cell_refused, corners_few, place_refused}
 use Rattle.plane_cut.specs.PlaneCut.{section_in}
 use Rattle.plane_cut.proofs.Claims.{can_section}
-use borrow.Author.Rules.{rules}
 use Rattle.plane_cut.proofs.section_cell_by_plane.Goals as goal
 
 pub overflow_mul-corners : goal.overflow_mul-corners

@@ -1,5 +1,5 @@
 -- `root::estimate` meets its contract: every factor is below 2 ^ 32. Assumes nothing.
-use Rattle.std.proofs.Common.{◌+◌, ◌*◌, ◌/◌, ◌%◌, ◌^◌, ◌≤◌, arith, rules}
+use Rattle.std.proofs.Common.{◌+◌, ◌*◌, ◌/◌, ◌%◌, ◌^◌, ◌≤◌, arith}
 use Rattle.root.proofs.Square.{word, short_word}
 use Rattle.root.proofs.estimate.Goals as goal
 use Rattle.root.proofs.estimate.Goals.{After-newton-y, After-wrapping_sub_u64}

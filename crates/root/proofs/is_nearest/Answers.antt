@@ -1,5 +1,5 @@
 -- `root::is_nearest` meets its contract. Assumes nothing.
-use Rattle.std.proofs.Common.{arith, rules}
+use Rattle.std.proofs.Common.{arith}
 use Rattle.root.proofs.Square.{Fit, fit, near_passes, near_fails}
 use Rattle.root.proofs.is_nearest.Goals as goal
 use Rattle.root.proofs.is_nearest.Goals.{Start}

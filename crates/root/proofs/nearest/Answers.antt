@@ -1,5 +1,5 @@
 -- `root::nearest` meets its contract. Assumes nothing.
-use Rattle.std.proofs.Common.{◌+◌, sym, ◌∙◌, arith, rules}
+use Rattle.std.proofs.Common.{◌+◌, sym, ◌∙◌, arith}
 use Rattle.root.proofs.Square.{tested}
 use Rattle.root.proofs.Steps.{root_fits, nearest_is}
 use Rattle.root.proofs.nearest.Goals as goal

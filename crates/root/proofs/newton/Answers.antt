@@ -1,5 +1,5 @@
 -- `root::newton` meets its contract: every factor is below 2 ^ 32. Assumes nothing.
-use Rattle.std.proofs.Common.{ℕ, ◌-◌, ◌*◌, ◌/◌, ◌%◌, arith, rules}
+use Rattle.std.proofs.Common.{ℕ, ◌-◌, ◌*◌, ◌/◌, ◌%◌, arith}
 use Rattle.root.proofs.Square.{word}
 use Rattle.root.proofs.newton.Goals as goal
 

@@ -1,5 +1,5 @@
 -- `root::root54` meets its contract. Assumes nothing.
-use Rattle.std.proofs.Common.{◌≡◌, ℕ, ◌+◌, ◌-◌, ◌*◌, ◌%◌, ◌<◌, ◌≤◌, sym, subst₂, ⊎_elim, arith}
+use Rattle.std.proofs.Common.{◌≡◌, ℕ, ◌+◌, ◌*◌, ◌%◌, ◌<◌, sym, subst₂, ⊎_elim, arith}
 use Rattle.root.proofs.Digits.{Digits, first, bound, one, none, done}
 use Rattle.root.proofs.root54.Goals as goal
 use Rattle.root.proofs.root54.Goals.{In-loop-i}

@@ -1,6 +1,6 @@
 -- `root::root54` meets its contract. Assumes nothing.
-use Rattle.std.proofs.Common.{◌≡◌, ℕ, ◌+◌, ◌-◌, ◌*◌, ◌%◌, ◌<◌, ◌≤◌, sym, subst₂, ⊎_elim, arith}
-use Rattle.root.proofs.Digits.{Digits, first, bound, one, none, done}
+use Rattle.std.proofs.Common.{◌-◌, ◌≤◌}
+use Rattle.root.proofs.Digits.{Digits}
 use Rattle.root.proofs.root54.Given as goal
 
 abbrev pub invariant-loop-i : goal.invariant-loop-i

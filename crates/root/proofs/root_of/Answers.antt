@@ -1,5 +1,5 @@
 -- `root::root_of` meets its contract. Assumes nothing.
-use Rattle.std.proofs.Common.{◌+◌, ◌*◌, ◌^◌, ◌<◌, arith, rules}
+use Rattle.std.proofs.Common.{◌+◌, ◌*◌, ◌^◌, ◌<◌, arith}
 use Rattle.root.proofs.Steps.{root_is, pattern_low, nearest_small}
 use Rattle.root.proofs.Reading.{le_no_nan}
 use Rattle.root.proofs.root_of.Goals as goal

@@ -1,6 +1,5 @@
 -- `root::root_of_bits` meets its contract. Assumes nothing.
-use Rattle.std.proofs.Common.{◌≡◌, ℕ, ◌<◌, sym, ◌∙◌, subst, ⊎_elim, arith, rules, eqb-true}
-use borrow.Author.Tests.{eqb-false}
+use Rattle.std.proofs.Common.{◌≡◌, ℕ, ◌<◌, sym, ◌∙◌, subst, ⊎_elim, arith}
 use lib.Ieee.{binary64, of_bits}
 use Rattle.root.specs.Root.{sqrt_of}
 use Rattle.root.proofs.Reading.{finite, negative, zero_by_zero, at_minus_zero, at_infinity, at_nothing, at_one, subnormal, normal}

@@ -1,5 +1,5 @@
 -- `root::scaled` meets its contract. Assumes nothing.
-use Rattle.std.proofs.Common.{arith, rules}
+use Rattle.std.proofs.Common.{arith}
 use lib.Count.{count_leading_zeros}
 use Rattle.root.proofs.Steps.{Placed, placed, scales}
 use Rattle.root.proofs.scaled.Goals as goal

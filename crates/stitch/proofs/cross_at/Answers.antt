@@ -6,7 +6,6 @@ use Rattle.vector.specs.View.{vec2}
 use Rattle.walk.specs.Walk.{point_at}
 use Rattle.stitch.specs.Stitch.{cross2}
 use Rattle.walk.proofs.Buffers.{point_is}
-use borrow.Author.Rules.{rules}
 use Rattle.stitch.proofs.cross_at.Goals as goal
 
 pub returns : goal.returns

@@ -1,10 +1,8 @@
 -- `stitch::finish` meets its contract. Assumes nothing.
 use native.Mathlib.Omega.{arith}
-use borrow.Author.Tests.{not-true, not-false}
 use lib.Ieee.{of_bits}
 use Rattle.vector.specs.Rows.{rows}
 use Rattle.stitch.proofs.Ending.{finish_open, finish_flat, finish_loop}
-use borrow.Author.Rules.{rules}
 use Rattle.stitch.proofs.finish.Goals as goal
 
 pub returns-then-not-closed : goal.returns-then-not-closed

@@ -1,5 +1,4 @@
 -- `stitch::put_loop` meets its contract. Assumes nothing.
-use borrow.Author.Rules.{rules}
 use Rattle.stitch.proofs.put_loop.Goals as goal
 
 pub returns-then-reversed : goal.returns-then-reversed

@@ -1,9 +1,7 @@
 -- `stitch::put_nodes` meets its contract. Assumes nothing.
 use mathlib.Core.Path.{refl}
-use Prim.Native.Nat.{◌-◌}
 use native.Mathlib.Omega.{arith}
-use lib.ListN.{length}
-use Rattle.stitch.proofs.Output.{Copying, copy_start, copy_length, copy_step, copy_end}
+use Rattle.stitch.proofs.Output.{copy_start, copy_length, copy_step, copy_end}
 use Rattle.stitch.proofs.put_nodes.Goals as goal
 
 pub loop-j-init : goal.loop-j-init

@@ -1,9 +1,7 @@
 -- `stitch::put_nodes` meets its contract. Assumes nothing.
-use mathlib.Core.Path.{refl}
 use Prim.Native.Nat.{◌-◌}
-use native.Mathlib.Omega.{arith}
 use lib.ListN.{length}
-use Rattle.stitch.proofs.Output.{Copying, copy_start, copy_length, copy_step, copy_end}
+use Rattle.stitch.proofs.Output.{Copying}
 use Rattle.stitch.proofs.put_nodes.Given as goal
 
 abbrev pub invariant-loop-j : goal.invariant-loop-j

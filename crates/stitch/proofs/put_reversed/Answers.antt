@@ -1,10 +1,8 @@
 -- `stitch::put_reversed` meets its contract. Assumes nothing.
 use mathlib.Core.Path.{sym}
-use mathlib.Core.List.{reverse}
-use Prim.Native.Nat.{◌-◌}
 use native.Mathlib.Omega.{arith}
-use lib.ListN.{length, length-reverse}
-use Rattle.stitch.proofs.Output.{Copying, copy_start, copy_length, copy_step, copy_end, get_d_reverse}
+use lib.ListN.{length-reverse}
+use Rattle.stitch.proofs.Output.{copy_start, copy_length, copy_step, copy_end, get_d_reverse}
 use Rattle.stitch.proofs.put_reversed.Goals as goal
 
 pub loop-k-init : goal.loop-k-init

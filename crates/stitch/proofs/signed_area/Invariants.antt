@@ -1,13 +1,10 @@
 -- `stitch::signed_area` meets its contract. Assumes nothing.
-use mathlib.Core.Path.{◌≡◌, refl, ap, sym, ◌∙◌}
-use Prim.Native.Nat.{◌+◌, ◌-◌, ◌<◌}
-use native.Mathlib.Omega.{arith}
-use lib.Ieee.{of_bits, div, binary64}
+use mathlib.Core.Path.{◌≡◌}
+use Prim.Native.Nat.{◌-◌, ◌<◌}
 use lib.ListN.{length, get_or, drop}
 use Rattle.vector.specs.Number.{f0}
 use Rattle.vector.specs.Rows.{rows}
-use Rattle.stitch.specs.Stitch.{area2_from, f2}
-use Rattle.stitch.proofs.Output.{area_step, area_end}
+use Rattle.stitch.specs.Stitch.{area2_from}
 use Rattle.stitch.proofs.signed_area.Given as goal
 
 abbrev pub invariant-loop-i : goal.invariant-loop-i

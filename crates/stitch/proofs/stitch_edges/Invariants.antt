@@ -1,10 +1,7 @@
 -- `stitch::stitch_edges` meets its contract. Assumes nothing.
 use Prim.Native.Nat.{◌-◌}
-use borrow.Author.Rules.{rules}
-use Rattle.weld.proofs.Lists.{edges_length}
-use native.Mathlib.Omega.{arith}
 use lib.ListN.{length}
-use Rattle.stitch.proofs.Stitching.{Looping, looping_start, looping_marked, looping_spare, looping_step, looping_end}
+use Rattle.stitch.proofs.Stitching.{Looping}
 use Rattle.stitch.proofs.stitch_edges.Given as goal
 
 abbrev pub invariant-loop-k : goal.invariant-loop-k

@@ -8,7 +8,6 @@ use Rattle.vector.specs.Rows.{rows}
 use Rattle.weld.specs.Code.{edges_of}
 use Rattle.weld.proofs.Lists.{edges_length}
 use Rattle.stitch.proofs.Turns.{read_mark, turn_used, walked_fits, walked_count, finishing, turn_free}
-use borrow.Author.Rules.{rules}
 use Rattle.stitch.proofs.stitch_from.Goals as goal
 use Rattle.stitch.proofs.stitch_from.Goals.{After-walk-w, Start}
 

@@ -3,7 +3,6 @@ use mathlib.Core.Path.{◌∙◌, ap, sym}
 use mathlib.Core.Bool.{false}
 use native.Mathlib.Omega.{arith}
 use lib.ListN.{length, length-replicate}
-use borrow.Author.Rules.{rules}
 use Rattle.stitch.proofs.Welded.{Walkable, walkable, stitches}
 use Rattle.stitch.proofs.stitch_within.Goals as goal
 use Rattle.stitch.proofs.stitch_within.Goals.{After-weld-w}

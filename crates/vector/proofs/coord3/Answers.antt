@@ -3,7 +3,6 @@ use Prim.Native.Nat.{◌*◌}
 use native.Mathlib.Numerals.{add-one}
 use native.Mathlib.Omega.{arith}
 use Rattle.vector.proofs.Rows.{add_two, row_read}
-use borrow.Author.Rules.{rules}
 use Rattle.vector.proofs.coord3.Goals as goal
 
 pub returns : goal.returns

@@ -1,11 +1,7 @@
 -- `vector::extent` meets its contract. Assumes nothing.
-use mathlib.Core.Path.{◌≡◌, refl, ap, ◌∙◌}
+use mathlib.Core.Path.{◌≡◌}
 use Prim.Native.Nat.{◌-◌, ◌≤◌}
-use native.Mathlib.Omega.{arith}
-use borrow.Author.Rules.{rules}
-use lib.Ieee.{of_bits}
 use Rattle.vector.specs.Tolerance as M
-use Rattle.vector.proofs.Passes.{extent_step}
 use Rattle.vector.proofs.extent.Given as goal
 
 abbrev pub invariant-loop-k : goal.invariant-loop-k

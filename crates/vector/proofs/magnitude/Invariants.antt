@@ -1,15 +1,11 @@
 -- `vector::magnitude` meets its contract. Assumes nothing.
-use mathlib.Core.Path.{◌≡◌, refl, ap, sym, ◌∙◌}
+use mathlib.Core.Path.{◌≡◌}
 use mathlib.Core.List.{map}
-use Prim.Native.Nat.{◌+◌, ◌-◌, ◌<◌}
-use native.Mathlib.Omega.{arith}
-use borrow.Author.Rules.{rules}
-use lib.Ieee.{of_bits}
+use Prim.Native.Nat.{◌-◌}
 use lib.ListN.{length, drop}
 use Rattle.vector.specs.Number.{abs}
 use Rattle.vector.specs.Tolerance as M
 use Rattle.vector.specs.Tolerance.{greater, greatest_from}
-use Rattle.vector.proofs.Passes.{magnitude_step, magnitude_end}
 use Rattle.vector.proofs.magnitude.Given as goal
 
 abbrev pub invariant-loop-i : goal.invariant-loop-i

@@ -1,8 +1,7 @@
 -- `vector::plane_basis` meets its contract. Assumes nothing.
 use mathlib.Core.Path.{◌≡◌, ap, sym, ◌∙◌}
-use Rattle.vector.specs.Vector.{Vector, basis, diff, lean, least_aligned_axis, scale, unit, with_u}
+use Rattle.vector.specs.Vector.{basis, diff, lean, least_aligned_axis, scale, unit, with_u}
 use Rattle.vector.specs.View.{unit3, vec3}
-use borrow.Author.Rules.{rules}
 use Rattle.vector.proofs.plane_basis.Goals as goal
 use Rattle.vector.proofs.plane_basis.Goals.{After-unit}
 

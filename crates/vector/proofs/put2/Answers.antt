@@ -1,6 +1,5 @@
 -- `vector::put2` meets its contract. Assumes nothing.
 use native.Mathlib.Numerals.{add-one}
-use borrow.Author.Rules.{rules}
 use Rattle.vector.proofs.put2.Goals as goal
 
 pub returns : goal.returns

@@ -3,7 +3,6 @@ use native.Mathlib.Numerals.{add-one}
 use native.Mathlib.Omega.{arith}
 use lib.ListN.{length-set}
 use Rattle.vector.proofs.Rows.{add_two}
-use borrow.Author.Rules.{rules}
 use Rattle.vector.proofs.put3.Goals as goal
 
 pub bounds-xs-i-2 : goal.bounds-xs-i-2

@@ -1,7 +1,6 @@
 -- `vector::slice_tolerance` meets its contract. Assumes nothing.
 use lib.Ieee.{mul, of_bits}
 use Rattle.vector.proofs.Passes.{tolerance_none, tolerance_some}
-use borrow.Author.Rules.{rules}
 use Rattle.vector.proofs.slice_tolerance.Goals as goal
 
 pub returns-then-xs-eq0 : goal.returns-then-xs-eq0

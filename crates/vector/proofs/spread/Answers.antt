@@ -1,10 +1,9 @@
 -- `vector::spread` meets its contract. Assumes nothing.
-use Prim.Native.Nat.{◌-◌, ◌<◌}
+use Prim.Native.Nat.{◌<◌}
 use native.Mathlib.Omega.{arith}
-use borrow.Author.Rules.{rules}
 use lib.Ieee.{div, neg, of_bits}
 use lib.ListN.{length}
-use Rattle.vector.proofs.Passes.{Ranging, ranging_start, ranging_step, ranging_end}
+use Rattle.vector.proofs.Passes.{ranging_start, ranging_step, ranging_end}
 use Rattle.vector.proofs.spread.Goals as goal
 
 pub loop-i-init : goal.loop-i-init

@@ -1,10 +1,7 @@
 -- `vector::spread` meets its contract. Assumes nothing.
-use Prim.Native.Nat.{◌-◌, ◌<◌}
-use native.Mathlib.Omega.{arith}
-use borrow.Author.Rules.{rules}
-use lib.Ieee.{div, neg, of_bits}
+use Prim.Native.Nat.{◌-◌}
 use lib.ListN.{length}
-use Rattle.vector.proofs.Passes.{Ranging, ranging_start, ranging_step, ranging_end}
+use Rattle.vector.proofs.Passes.{Ranging}
 use Rattle.vector.proofs.spread.Given as goal
 
 abbrev pub invariant-loop-i : goal.invariant-loop-i

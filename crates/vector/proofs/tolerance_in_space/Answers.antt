@@ -2,7 +2,6 @@
 use mathlib.Core.Path.{ap, sym}
 use Rattle.vector.specs.Tolerance.{told_tolerance}
 use Rattle.vector.proofs.Extents.{not_rows, rows_fit}
-use borrow.Author.Rules.{rules}
 use Rattle.vector.proofs.tolerance_in_space.Goals as goal
 
 pub returns-then-xs-ne0 : goal.returns-then-xs-ne0

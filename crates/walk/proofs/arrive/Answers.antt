@@ -3,7 +3,6 @@ use mathlib.Core.Path.{refl, ap, ◌∙◌}
 use lib.Ieee.{binary64}
 use Rattle.root.specs.Root.{sqrt_of}
 use Rattle.walk.proofs.Buffers.{point_is}
-use borrow.Author.Rules.{rules}
 use Rattle.walk.proofs.arrive.Goals as goal
 
 pub returns : goal.returns

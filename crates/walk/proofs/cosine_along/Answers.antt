@@ -8,7 +8,6 @@ use Rattle.vector.specs.Rows.{rows}
 use Rattle.vector.specs.View.{vec2}
 use Rattle.walk.specs.Walk.{point_at, cosine_to}
 use Rattle.walk.proofs.Buffers.{point_is, end_below, other_is}
-use borrow.Author.Rules.{rules}
 use Rattle.walk.proofs.cosine_along.Goals as goal
 use Rattle.walk.proofs.cosine_along.Goals.{After-other_end-next}
 

@@ -1,5 +1,4 @@
 -- `walk::end_at` meets its contract. Assumes nothing.
-use borrow.Author.Rules.{rules}
 use Rattle.walk.proofs.end_at.Goals as goal
 
 pub returns : goal.returns

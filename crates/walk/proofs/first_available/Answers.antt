@@ -1,10 +1,7 @@
 -- `walk::first_available` meets its contract. Assumes nothing.
-use borrow.Author.Rules.{rules}
 use mathlib.Core.Path.{refl}
-use Prim.Native.Nat.{◌-◌, ◌≤◌}
 use native.Mathlib.Omega.{arith}
-use lib.ListN.{length}
-use Rattle.walk.proofs.Scan.{Left, first_skip, first_hit, first_none}
+use Rattle.walk.proofs.Scan.{first_skip, first_hit, first_none}
 use Rattle.walk.proofs.first_available.Goals as goal
 
 pub loop-j-init : goal.loop-j-init

@@ -1,10 +1,7 @@
 -- `walk::first_available` meets its contract. Assumes nothing.
-use borrow.Author.Rules.{rules}
-use mathlib.Core.Path.{refl}
 use Prim.Native.Nat.{◌-◌, ◌≤◌}
-use native.Mathlib.Omega.{arith}
 use lib.ListN.{length}
-use Rattle.walk.proofs.Scan.{Left, first_skip, first_hit, first_none}
+use Rattle.walk.proofs.Scan.{Left}
 use Rattle.walk.proofs.first_available.Given as goal
 
 abbrev pub invariant-loop-j : goal.invariant-loop-j

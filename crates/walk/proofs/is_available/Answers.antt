@@ -1,6 +1,5 @@
 -- `walk::is_available` meets its contract. Assumes nothing.
 use borrow.Author.Tests.{eq-eqb, ne_eqb}
-use borrow.Author.Rules.{rules}
 use Rattle.walk.proofs.is_available.Goals as goal
 
 pub returns-then-a-c : goal.returns-then-a-c

@@ -1,14 +1,9 @@
 -- `walk::last_edges` meets its contract. The invariant: the table of the first k edges. Assumes nothing.
-use mathlib.Core.Path.{◌≡◌, refl, ap, sym, ◌∙◌}
-use Prim.Native.Nat.{ℕ, ◌-◌, ◌≤◌, ◌<◌}
-use native.Mathlib.Omega.{arith}
-use borrow.Author.Rules.{rules}
-use lib.ListN.{length, get_or, length-set}
-use Rattle.weld.specs.Weld.{edge}
+use mathlib.Core.Path.{◌≡◌}
+use Prim.Native.Nat.{◌-◌, ◌≤◌}
+use lib.ListN.{length}
 use Rattle.weld.specs.Code.{edges_of}
-use Rattle.weld.proofs.Lists.{edges_length, edges_get_d}
-use Rattle.walk.specs.Walk.{edge_at}
-use Rattle.walk.proofs.Lasts.{LastsTo, lasts_start, lasts_step, lasts_end}
+use Rattle.walk.proofs.Lasts.{LastsTo}
 use Rattle.walk.proofs.last_edges.Given as goal
 
 abbrev pub invariant-loop-k : goal.invariant-loop-k

@@ -8,7 +8,6 @@ use Rattle.weld.specs.Code.{edges_of}
 use Rattle.weld.proofs.Lists.{edges_length}
 use Rattle.walk.specs.Walk.{edge_at, touches}
 use Rattle.walk.proofs.Scan.{next_none, next_one, next_many}
-use borrow.Author.Rules.{rules}
 use Rattle.walk.proofs.select_next_edge.Goals as goal
 use Rattle.walk.proofs.select_next_edge.Goals.{Start}
 

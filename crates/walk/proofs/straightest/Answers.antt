@@ -1,14 +1,11 @@
 -- `walk::straightest` meets its contract. Assumes nothing.
-use borrow.Author.Rules.{rules}
-use mathlib.Core.Path.{◌≡◌, ap, sym, ◌∙◌}
-use Prim.Native.Nat.{◌-◌, ◌≤◌}
+use mathlib.Core.Path.{ap, sym, ◌∙◌}
 use native.Mathlib.Omega.{arith}
-use lib.ListN.{length}
 use Rattle.vector.specs.Rows.{rows}
 use Rattle.weld.specs.Code.{edges_of}
 use Rattle.weld.proofs.Lists.{edges_length}
 use Rattle.walk.specs.Walk.{straightest}
-use Rattle.walk.specs.Code.{cosine_for, ahead}
+use Rattle.walk.specs.Code.{cosine_for}
 use Rattle.walk.proofs.Scan.{seek_step, straightest_end, ahead_none}
 use Rattle.walk.proofs.straightest.Goals as goal
 

@@ -1,15 +1,11 @@
 -- `walk::straightest` meets its contract. Assumes nothing.
-use borrow.Author.Rules.{rules}
-use mathlib.Core.Path.{◌≡◌, ap, sym, ◌∙◌}
+use mathlib.Core.Path.{◌≡◌}
 use Prim.Native.Nat.{◌-◌, ◌≤◌}
-use native.Mathlib.Omega.{arith}
 use lib.ListN.{length}
 use Rattle.vector.specs.Rows.{rows}
 use Rattle.weld.specs.Code.{edges_of}
-use Rattle.weld.proofs.Lists.{edges_length}
 use Rattle.walk.specs.Walk.{straightest}
 use Rattle.walk.specs.Code.{cosine_for, ahead}
-use Rattle.walk.proofs.Scan.{seek_step, straightest_end, ahead_none}
 use Rattle.walk.proofs.straightest.Given as goal
 
 abbrev pub invariant-loop-k : goal.invariant-loop-k

@@ -1,17 +1,14 @@
 -- `walk::walk` meets its contract. Assumes nothing.
 use mathlib.Core.Path.{◌≡◌, sym, ◌∙◌}
-use Prim.Native.Nat.{ℕ, ◌≤◌, ◌<◌}
+use Prim.Native.Nat.{◌<◌}
 use native.Mathlib.Omega.{arith}
-use borrow.Author.Rules.{rules}
 use lib.ListN.{length, get_or, set, length-set}
 use Rattle.vector.specs.Rows.{rows}
 use Rattle.weld.specs.Code.{edges_of}
 use Rattle.weld.proofs.Lists.{edges_length}
-use Rattle.walk.specs.declared.Next.{Next}
 use Rattle.walk.specs.declared.Next.TheVariants as next
 use Rattle.walk.specs.Walk.{next_edge}
-use Rattle.walk.specs.Code.{unused}
-use Rattle.walk.proofs.Walking.{Going, whole, walk_is, going_start, in_buffer, marked, free_in, fewer, going_step, going_open, going_closed, went_as}
+use Rattle.walk.proofs.Walking.{walk_is, going_start, in_buffer, marked, free_in, fewer, going_step, going_open, going_closed, went_as}
 use Rattle.walk.proofs.walk.Goals as goal
 use Rattle.walk.proofs.walk.Goals.{In-Edge, In_default, Start}
 

@@ -1,6 +1,5 @@
 -- `weld::add_edge` meets its contract. Assumes nothing.
 use mathlib.Core.Path.{◌∙◌, sym}
-use borrow.Author.Rules.{rules}
 use Rattle.weld.proofs.Lists.{added_new, added_none, added_old}
 use Rattle.weld.proofs.add_edge.Goals as goal
 

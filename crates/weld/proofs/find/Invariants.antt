@@ -1,9 +1,7 @@
 -- `weld::find` meets its contract. The invariant: none of the first k points is within. Assumes nothing.
 use Prim.Native.Nat.{◌-◌}
-use native.Mathlib.Omega.{arith}
-use borrow.Author.Rules.{rules}
 use Rattle.vector.specs.View.{vec2}
-use Rattle.weld.proofs.Points.{Finding, finding_end, finding_hit, finding_miss, finding_start}
+use Rattle.weld.proofs.Points.{Finding}
 use Rattle.weld.proofs.find.Given as goal
 
 abbrev pub invariant-loop-k : goal.invariant-loop-k

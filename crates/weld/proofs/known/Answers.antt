@@ -1,6 +1,5 @@
 -- `weld::known` meets its contract. Assumes nothing.
 use mathlib.Core.Path.{sym}
-use borrow.Author.Rules.{rules}
 use Rattle.weld.proofs.Edges.{newer_unlisted}
 use Rattle.weld.proofs.known.Goals as goal
 

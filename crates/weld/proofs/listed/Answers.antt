@@ -1,9 +1,6 @@
 -- `weld::listed` meets its contract. The invariant: e is none of the first j edges. Assumes nothing.
-use Prim.Native.Nat.{◌-◌}
 use native.Mathlib.Omega.{arith}
-use borrow.Author.Rules.{rules}
-use Rattle.weld.specs.Weld.{edge}
-use Rattle.weld.proofs.Lists.{Seeking, seeking_end, seeking_hit, seeking_miss, seeking_start}
+use Rattle.weld.proofs.Lists.{seeking_end, seeking_hit, seeking_miss, seeking_start}
 use Rattle.weld.proofs.listed.Goals as goal
 
 pub loop-j-init : goal.loop-j-init

@@ -2,7 +2,6 @@
 use mathlib.Core.Path.{refl}
 use native.Mathlib.Omega.{arith}
 use Rattle.weld.proofs.Points.{became_new, became_old}
-use borrow.Author.Rules.{rules}
 use Rattle.weld.proofs.push_coord.Goals as goal
 
 pub returns-then-k-n : goal.returns-then-k-n

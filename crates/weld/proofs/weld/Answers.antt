@@ -1,9 +1,6 @@
 -- `weld::weld` meets its contract. The invariant: what is welded so far, and the segments from i on, give what all give. Assumes nothing.
 use mathlib.Core.Path.{◌∙◌}
-use Prim.Native.Nat.{◌-◌}
-use borrow.Author.Rules.{rules}
-use lib.ListN.{length}
-use Rattle.weld.proofs.Welding.{Welding, welding_end, welding_start, welding_step}
+use Rattle.weld.proofs.Welding.{welding_end, welding_start, welding_step}
 use Rattle.weld.proofs.weld.Goals as goal
 
 pub loop-i-init : goal.loop-i-init

@@ -1,6 +1,5 @@
 -- `weld::weld_segment` meets its contract. Assumes nothing.
 use native.Mathlib.Omega.{arith}
-use borrow.Author.Rules.{rules}
 use Rattle.weld.proofs.Points.{became_few}
 use Rattle.weld.proofs.Welding.{joined}
 use Rattle.weld.proofs.weld_segment.Goals as goal

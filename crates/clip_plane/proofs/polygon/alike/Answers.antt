@@ -1,5 +1,4 @@
 -- `clip_plane::polygon::alike` meets its contract. Written from clip_space's by tools/widths. Assumes nothing.
-use borrow.Author.Rules.{rules}
 use Rattle.clip_plane.proofs.polygon.alike.Goals as goal
 
 pub returns-then-both_at_most : goal.returns-then-both_at_most

@@ -2,7 +2,6 @@
 use mathlib.Core.Path.{◌≡◌, ap}
 use mathlib.Core.Bool.{true}
 use mathlib.Core.List.{[], ◌∷◌}
-use borrow.Author.Rules.{rules}
 use Rattle.vector.specs.Vector.{Vector}
 use Rattle.vector.specs.View.{vec2}
 use Rattle.clip.specs.Clip.{inside}

@@ -1,12 +1,9 @@
 -- `clip_plane::polygon::clip_polygon` meets its contract. Written from clip_space's by tools/widths. Assumes nothing.
 -- The invariant: the points kept, with those of the edges left, make the clipped points.
 use mathlib.Core.Path.{ap, sym, ◌∙◌}
-use Prim.Native.Nat.{◌-◌}
 use native.Mathlib.Omega.{arith}
-use borrow.Author.Rules.{rules}
-use Rattle.vector.specs.View.{vec2}
 use Rattle.clip.proofs.Ring.{next_below}
-use Rattle.clip.proofs.Clipping.{PolygonClipping, clipping_end, clipping_room, clipping_start, clipping_step, first_distance, next_distance}
+use Rattle.clip.proofs.Clipping.{clipping_end, clipping_room, clipping_start, clipping_step, first_distance, next_distance}
 use Rattle.clip.specs.Clip.{signed}
 use Rattle.clip_plane.specs.View.{cut2}
 use Rattle.clip_plane.proofs.polygon.clip_polygon.Goals as goal

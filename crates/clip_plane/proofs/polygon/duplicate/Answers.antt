@@ -1,10 +1,8 @@
 -- `clip_plane::polygon::duplicate` meets its contract. Written from clip_space's by tools/widths. The invariant: no segment passed is alike. Assumes nothing.
-use Prim.Native.Nat.{◌-◌}
 use native.Mathlib.Omega.{arith}
-use borrow.Author.Rules.{rules}
 use Rattle.vector.specs.Rows.{seg}
 use Rattle.vector.specs.View.{vec2}
-use Rattle.clip.proofs.Listing.{Searching, searching_end, searching_hit, searching_start, searching_step}
+use Rattle.clip.proofs.Listing.{searching_end, searching_hit, searching_start, searching_step}
 use Rattle.clip_plane.proofs.polygon.duplicate.Goals as goal
 
 pub loop-i-init : goal.loop-i-init

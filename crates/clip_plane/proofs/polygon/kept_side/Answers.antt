@@ -1,10 +1,8 @@
 -- `clip_plane::polygon::kept_side` meets its contract. Written from clip_space's by tools/widths. Assumes nothing.
 -- The invariant: the corners passed are counted, and their distances written.
 use mathlib.Core.Path.{refl}
-use Prim.Native.Nat.{◌-◌}
 use native.Mathlib.Omega.{arith}
-use borrow.Author.Rules.{rules}
-use Rattle.clip.proofs.KeptSide.{Looking, looking_end, looking_start, looking_step}
+use Rattle.clip.proofs.KeptSide.{looking_end, looking_start, looking_step}
 use Rattle.clip_plane.specs.View.{cut2}
 use Rattle.clip_plane.proofs.polygon.kept_side.Goals as goal
 

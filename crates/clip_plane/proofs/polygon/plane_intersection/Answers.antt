@@ -1,5 +1,4 @@
 -- `clip_plane::polygon::plane_intersection` meets its contract. Written from clip_space's by tools/widths. Assumes nothing.
-use borrow.Author.Rules.{rules}
 use Rattle.vector.specs.View.{vec2}
 use Rattle.clip.proofs.Clipping.{crossing}
 use Rattle.clip_plane.specs.View.{cut2}

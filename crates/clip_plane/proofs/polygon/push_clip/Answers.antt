@@ -1,6 +1,5 @@
 -- `clip_plane::polygon::push_clip` meets its contract. Written from clip_space's by tools/widths. Assumes nothing.
 use native.Mathlib.Omega.{arith}
-use borrow.Author.Rules.{rules}
 use Rattle.vector.specs.View.{vec2}
 use Rattle.clip.proofs.Clipping.{push_none, push_one, push_two, pushed_at_most}
 use Rattle.clip_plane.proofs.polygon.push_clip.Goals as goal

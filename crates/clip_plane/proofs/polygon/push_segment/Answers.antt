@@ -1,7 +1,6 @@
 -- `clip_plane::polygon::push_segment` meets its contract. Written from clip_space's by tools/widths. Assumes nothing.
 use mathlib.Core.Path.{refl}
 use native.Mathlib.Omega.{arith}
-use borrow.Author.Rules.{rules}
 use Rattle.vector.specs.Rows.{seg}
 use Rattle.vector.specs.View.{vec2}
 use Rattle.clip.proofs.Listing.{push_again, push_new, push_off}

@@ -1,7 +1,6 @@
 -- `clip_plane::polygon::push_unique` meets its contract. Written from clip_space's by tools/widths. Assumes nothing.
 use mathlib.Core.Path.{refl}
 use native.Mathlib.Omega.{arith}
-use borrow.Author.Rules.{rules}
 use Rattle.vector.specs.View.{vec2}
 use Rattle.clip.proofs.Clipping.{push_far, push_first, push_near}
 use Rattle.clip_plane.proofs.polygon.push_unique.Goals as goal

@@ -1,6 +1,5 @@
 -- `clip_plane::polygon::section_on` meets its contract. Written from clip_space's by tools/widths. Assumes nothing.
 use native.Mathlib.Omega.{arith}
-use borrow.Author.Rules.{rules}
 use Rattle.clip.proofs.Clipping.{clipped_count}
 use Rattle.clip.proofs.Section.{few_points, many_points}
 use Rattle.clip_plane.specs.View.{cut2}

@@ -1,10 +1,8 @@
 -- `clip_plane::polygon::segments` meets its contract. Written from clip_space's by tools/widths. Assumes nothing.
 -- The invariant: the segments listed, with those of the edges left, make the segments.
 use Prim.Native.Nat.{◌-◌}
-use native.Mathlib.Omega.{arith}
 use Rattle.vector.specs.View.{vec2}
-use Rattle.clip.proofs.Ring.{next_below}
-use Rattle.clip.proofs.Listing.{Listing, listing_end, listing_start, listing_step}
+use Rattle.clip.proofs.Listing.{Listing}
 use Rattle.clip_plane.specs.View.{cut2}
 use Rattle.clip_plane.proofs.polygon.segments.Given as goal
 

@@ -1,6 +1,5 @@
 -- `clip_plane::polygon::without_closing` meets its contract. Written from clip_space's by tools/widths. Assumes nothing.
 use native.Mathlib.Omega.{arith}
-use borrow.Author.Rules.{rules}
 use Rattle.clip.proofs.Clipping.{closing_far, closing_few, closing_near}
 use Rattle.clip_plane.proofs.polygon.without_closing.Goals as goal
 

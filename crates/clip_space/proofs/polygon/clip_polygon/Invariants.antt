@@ -1,13 +1,8 @@
 -- `clip_space::polygon::clip_polygon` meets its contract. Assumes nothing.
 -- The invariant: the points kept, with those of the edges left, make the clipped points.
-use mathlib.Core.Path.{ap, sym, ◌∙◌}
 use Prim.Native.Nat.{◌-◌}
-use native.Mathlib.Omega.{arith}
-use borrow.Author.Rules.{rules}
 use Rattle.vector.specs.View.{vec3}
-use Rattle.clip.proofs.Ring.{next_below}
-use Rattle.clip.proofs.Clipping.{PolygonClipping, clipping_end, clipping_room, clipping_start, clipping_step, first_distance, next_distance}
-use Rattle.clip.specs.Clip.{signed}
+use Rattle.clip.proofs.Clipping.{PolygonClipping}
 use Rattle.clip_space.specs.View.{cut3}
 use Rattle.clip_space.proofs.polygon.clip_polygon.Given as goal
 

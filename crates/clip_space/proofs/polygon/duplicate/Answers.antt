@@ -1,10 +1,8 @@
 -- `clip_space::polygon::duplicate` meets its contract. The invariant: no segment passed is alike. Assumes nothing.
-use Prim.Native.Nat.{◌-◌}
 use native.Mathlib.Omega.{arith}
-use borrow.Author.Rules.{rules}
 use Rattle.vector.specs.Rows.{seg}
 use Rattle.vector.specs.View.{vec3}
-use Rattle.clip.proofs.Listing.{Searching, searching_end, searching_hit, searching_start, searching_step}
+use Rattle.clip.proofs.Listing.{searching_end, searching_hit, searching_start, searching_step}
 use Rattle.clip_space.proofs.polygon.duplicate.Goals as goal
 
 pub loop-i-init : goal.loop-i-init

@@ -1,10 +1,7 @@
 -- `clip_space::polygon::kept_side` meets its contract. Assumes nothing.
 -- The invariant: the corners passed are counted, and their distances written.
-use mathlib.Core.Path.{refl}
 use Prim.Native.Nat.{◌-◌}
-use native.Mathlib.Omega.{arith}
-use borrow.Author.Rules.{rules}
-use Rattle.clip.proofs.KeptSide.{Looking, looking_end, looking_start, looking_step}
+use Rattle.clip.proofs.KeptSide.{Looking}
 use Rattle.clip_space.specs.View.{cut3}
 use Rattle.clip_space.proofs.polygon.kept_side.Given as goal
 

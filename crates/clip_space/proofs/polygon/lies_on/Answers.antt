@@ -1,5 +1,4 @@
 -- `clip_space::polygon::lies_on` meets its contract. Assumes nothing.
-use borrow.Author.Rules.{rules}
 use Rattle.clip_space.proofs.polygon.lies_on.Goals as goal
 
 pub returns-then-both_at_most : goal.returns-then-both_at_most

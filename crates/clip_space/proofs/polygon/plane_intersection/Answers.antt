@@ -1,5 +1,4 @@
 -- `clip_space::polygon::plane_intersection` meets its contract. Assumes nothing.
-use borrow.Author.Rules.{rules}
 use Rattle.vector.specs.View.{vec3}
 use Rattle.clip.proofs.Clipping.{crossing}
 use Rattle.clip_space.specs.View.{cut3}

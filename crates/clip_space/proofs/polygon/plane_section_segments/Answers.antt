@@ -2,7 +2,6 @@
 use mathlib.Core.Path.{refl}
 use Rattle.clip.proofs.Section.{few_corners, no_segments, on_side}
 use Rattle.clip_space.specs.View.{cut3}
-use borrow.Author.Rules.{rules}
 use Rattle.clip_space.proofs.polygon.plane_section_segments.Goals as goal
 
 pub returns-then-n-lt3 : goal.returns-then-n-lt3

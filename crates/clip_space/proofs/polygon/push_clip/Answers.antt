@@ -1,6 +1,5 @@
 -- `clip_space::polygon::push_clip` meets its contract. Assumes nothing.
 use native.Mathlib.Omega.{arith}
-use borrow.Author.Rules.{rules}
 use Rattle.vector.specs.View.{vec3}
 use Rattle.clip.proofs.Clipping.{push_none, push_one, push_two, pushed_at_most}
 use Rattle.clip_space.proofs.polygon.push_clip.Goals as goal

@@ -1,7 +1,6 @@
 -- `clip_space::polygon::push_segment` meets its contract. Assumes nothing.
 use mathlib.Core.Path.{refl}
 use native.Mathlib.Omega.{arith}
-use borrow.Author.Rules.{rules}
 use Rattle.vector.specs.Rows.{seg}
 use Rattle.vector.specs.View.{vec3}
 use Rattle.clip.proofs.Listing.{push_again, push_new, push_off}

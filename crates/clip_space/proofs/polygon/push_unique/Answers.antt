@@ -1,7 +1,6 @@
 -- `clip_space::polygon::push_unique` meets its contract. Assumes nothing.
 use mathlib.Core.Path.{refl}
 use native.Mathlib.Omega.{arith}
-use borrow.Author.Rules.{rules}
 use Rattle.vector.specs.View.{vec3}
 use Rattle.clip.proofs.Clipping.{push_far, push_first, push_near}
 use Rattle.clip_space.proofs.polygon.push_unique.Goals as goal

@@ -1,6 +1,5 @@
 -- `clip_space::polygon::section_on` meets its contract. Assumes nothing.
 use native.Mathlib.Omega.{arith}
-use borrow.Author.Rules.{rules}
 use Rattle.clip.proofs.Clipping.{clipped_count}
 use Rattle.clip.proofs.Section.{few_points, many_points}
 use Rattle.clip_space.specs.View.{cut3}

@@ -1,10 +1,8 @@
 -- `clip_space::polygon::segments` meets its contract. Assumes nothing.
 -- The invariant: the segments listed, with those of the edges left, make the segments.
-use Prim.Native.Nat.{◌-◌}
 use native.Mathlib.Omega.{arith}
-use Rattle.vector.specs.View.{vec3}
 use Rattle.clip.proofs.Ring.{next_below}
-use Rattle.clip.proofs.Listing.{Listing, listing_end, listing_start, listing_step}
+use Rattle.clip.proofs.Listing.{listing_end, listing_start, listing_step}
 use Rattle.clip_space.specs.View.{cut3}
 use Rattle.clip_space.proofs.polygon.segments.Goals as goal
 

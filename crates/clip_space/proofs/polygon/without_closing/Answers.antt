@@ -1,6 +1,5 @@
 -- `clip_space::polygon::without_closing` meets its contract. Assumes nothing.
 use native.Mathlib.Omega.{arith}
-use borrow.Author.Rules.{rules}
 use Rattle.clip.proofs.Clipping.{closing_far, closing_few, closing_near}
 use Rattle.clip_space.proofs.polygon.without_closing.Goals as goal
 

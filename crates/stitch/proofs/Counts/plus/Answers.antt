@@ -1,5 +1,4 @@
 -- `stitch::Counts::plus` meets its contract. Assumes nothing.
-use borrow.Author.Rules.{rules}
 use Rattle.stitch.proofs.Counts.plus.Goals as goal
 
 pub returns-in-Loop : goal.returns-in-Loop

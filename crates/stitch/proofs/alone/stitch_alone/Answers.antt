@@ -2,11 +2,9 @@
 use mathlib.Core.Path.{◌∙◌, sym}
 use Prim.Native.Nat.{◌*◌, ◌/◌}
 use native.Mathlib.Omega.{arith}
-use borrow.Author.Tests.{not-true, not-false}
 use lib.ListN.{length}
 use Rattle.stitch.specs.Entry.{buffers, lengths}
 use Rattle.stitch.proofs.Entries.{alone, crowded, fits, gave_refusal, gave_section, not_fours, too_many}
-use borrow.Author.Rules.{rules}
 use Rattle.stitch.proofs.alone.stitch_alone.Goals as goal
 
 pub returns-then-segments-ne0 : goal.returns-then-segments-ne0

@@ -2,7 +2,6 @@
 use mathlib.Core.Path.{◌≡◌, ap, sym, ◌∙◌}
 use Rattle.vector.specs.Vector.{Vector, Basis, basis, baseless, plane_of, with_basis, with_normal}
 use Rattle.vector.specs.View.{basis_of, unit3, vec3}
-use borrow.Author.Rules.{rules}
 use Rattle.vector.proofs.Plane.new.Goals as goal
 use Rattle.vector.proofs.Plane.new.Goals.{After-plane_basis}
 

@@ -2,7 +2,6 @@
 use mathlib.Core.Path.{◌≡◌, ap, sym, ◌∙◌}
 use Rattle.vector.specs.Vector.{Vector, Direction, along, cross, framed, least_aligned_axis, line_of, nowhere, unit, with_direction, with_e2}
 use Rattle.vector.specs.View.{unit3, vec3}
-use borrow.Author.Rules.{rules}
 use Rattle.vector.proofs.Plane.of_line.Goals as goal
 use Rattle.vector.proofs.Plane.of_line.Goals.{After-unit-2}
 

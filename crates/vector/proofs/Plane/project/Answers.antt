@@ -3,7 +3,6 @@ use mathlib.Core.Path.{ap}
 use mathlib.Core.List.{[], ◌∷◌}
 use Rattle.vector.specs.Vector.{dot}
 use Rattle.vector.specs.View.{vec3}
-use borrow.Author.Rules.{rules}
 use Rattle.vector.proofs.Plane.project.Goals as goal
 
 pub returns : goal.returns

@@ -1,7 +1,6 @@
 -- `vector::Vec2::dist2` meets its contract. Assumes nothing.
 use mathlib.Core.Path.{ap, ◌∙◌}
 use Rattle.vector.specs.Vector.{dot}
-use borrow.Author.Rules.{rules}
 use Rattle.vector.proofs.Vec2.dist2.Goals as goal
 
 pub returns : goal.returns

@@ -2,7 +2,6 @@
 use mathlib.Core.Path.{ap, ◌∙◌}
 use Rattle.vector.specs.Vector.{dot}
 use Rattle.vector.specs.View.{vec2}
-use borrow.Author.Rules.{rules}
 use Rattle.vector.proofs.Vec2.distance.Goals as goal
 
 pub returns : goal.returns

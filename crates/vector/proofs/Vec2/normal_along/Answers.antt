@@ -2,7 +2,6 @@
 use mathlib.Core.Path.{ap, sym, ◌∙◌}
 use Rattle.vector.specs.Vector.{turned}
 use Rattle.vector.specs.View.{unit2}
-use borrow.Author.Rules.{rules}
 use Rattle.vector.proofs.Vec2.normal_along.Goals as goal
 
 pub returns-in_default : goal.returns-in_default

@@ -2,7 +2,6 @@
 use lib.Ieee.{of_bits}
 use Rattle.vector.specs.View.{vec2}
 use Rattle.vector.proofs.Unit.{unit_along, unit_nowhere}
-use borrow.Author.Rules.{rules}
 use Rattle.vector.proofs.Vec2.unit.Goals as goal
 
 pub returns-then-n : goal.returns-then-n

@@ -1,7 +1,6 @@
 -- `vector::Vec3::least_aligned_axis` meets its contract. Assumes nothing.
 use lib.Ieee.{of_bits}
 use Rattle.vector.specs.Vector.{least_aligned_axis}
-use borrow.Author.Rules.{rules}
 use Rattle.vector.proofs.Vec3.least_aligned_axis.Goals as goal
 
 pub returns-then-at_most_both : goal.returns-then-at_most_both

@@ -2,7 +2,6 @@
 use mathlib.Core.Path.{◌∙◌}
 use Rattle.vector.specs.View.{vec2}
 use Rattle.walk.proofs.Buffers.{cosine_to_lem}
-use borrow.Author.Rules.{rules}
 use Rattle.walk.proofs.Arrival.cosine.Goals as goal
 
 pub returns : goal.returns

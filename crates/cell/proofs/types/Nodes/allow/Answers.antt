@@ -1,5 +1,4 @@
 -- `Nodes::allow` meets its contract. Assumes nothing.
-use borrow.Author.Rules.{rules}
 use Rattle.cell.proofs.types.Nodes.allow.Goals as goal
 
 pub returns-in-Exactly : goal.returns-in-Exactly

@@ -1,7 +1,6 @@
 -- `PlaneType::corners_of` meets its contract. Assumes nothing.
 use mathlib.Core.Path.{sym, ap, ◌∙◌}
 use Rattle.cell.specs.Types.{corners_typed}
-use borrow.Author.Rules.{rules}
 use Rattle.cell.proofs.types.PlaneType.corners_of.Goals as goal
 
 pub returns-in_default : goal.returns-in_default

@@ -1,7 +1,6 @@
 -- `SpaceType::shape_of` meets its contract. Assumes nothing.
 use mathlib.Core.Path.{sym, ap, ◌∙◌}
 use Rattle.cell.specs.Types.{shape_in}
-use borrow.Author.Rules.{rules}
 use Rattle.cell.proofs.types.SpaceType.shape_of.Goals as goal
 
 pub returns-in_default : goal.returns-in_default
