@@ -1,28 +1,27 @@
 // Words of 64 bits, as they are read, and as numbers.
-ghost use Rattle.std.specs.Prelude.{◌≡◌, ◌^◌, ◌<◌, ◌≤◌, length, IfOk};
+ghost use Rattle.std.specs.Prelude.{◌≡◌, ◌^◌, ◌<◌, ◌≤◌, length};
 ghost use Rattle.replay.specs.Code.{Counts};
 ghost use Rattle.replay.specs.Same.{pattern_of};
 
-use std::io::{self, Read};
+use std::io::Read;
 
 // The next word of the input, or 0 where it has ended.
-pub fn next<R: Read>(input: &mut R) -> io::Result<u64> {
+pub fn next<R: Read>(input: &mut R) -> u64 {
     let mut bytes = [0u8; 8];
-    read_full(input, &mut bytes)?;
-    Ok(from_bytes(&bytes))
+    read_full(input, &mut bytes);
+    from_bytes(&bytes)
 }
 
-// Reads until buf is full or the input ends. The rest of buf stays as it is.
-pub fn read_full<R: Read>(input: &mut R, buf: &mut [u8]) -> io::Result<()> {
+// Reads until buf is full or the input has ended, as it has where a read fails. The rest of buf stays as it is.
+pub fn read_full<R: Read>(input: &mut R, buf: &mut [u8]) {
     let mut done = 0;
     while done < buf.len() {
-        let n = input.read(&mut buf[done..])?;
+        let n = input.read(&mut buf[done..]).unwrap_or(0);
         if n == 0 {
             break;
         }
         done += n;
     }
-    Ok(())
 }
 
 // Eight bytes as a word, lowest first.
@@ -43,11 +42,11 @@ fn wide(x: u8) -> u64
 }
 
 // The next word as a length, or `most` where it is more.
-pub fn next_length<R: Read>(input: &mut R, most: usize) -> io::Result<usize>
-    ensures { IfOk result (λ n. n ≤ most) }
+pub fn next_length<R: Read>(input: &mut R, most: usize) -> usize
+    ensures { result ≤ most }
 {
-    let n = next(input)? as usize;
-    Ok(if n < most { n } else { most })
+    let n = next(input) as usize;
+    if n < most { n } else { most }
 }
 
 // The number with the pattern b.
@@ -69,27 +68,27 @@ pub fn pattern(x: f64) -> u64
 }
 
 // Reads the next list, of words, to the start of out, and gives its length.
-pub fn next_words<R: Read>(input: &mut R, out: &mut [u64]) -> io::Result<usize>
-    ensures { IfOk result (λ n. Counts n out.new) }
+pub fn next_words<R: Read>(input: &mut R, out: &mut [u64]) -> usize
+    ensures { Counts result out.new }
 {
-    let n = next_length(input, out.len())?;
+    let n = next_length(input, out.len());
     let mut i = 0;
     while i < n {
-        out[i] = next(input)?;
+        out[i] = next(input);
         i += 1;
     }
-    Ok(n)
+    n
 }
 
 // Reads the next list, of numbers, to the start of out, and gives its length.
-pub fn next_numbers<R: Read>(input: &mut R, out: &mut [f64]) -> io::Result<usize>
-    ensures { IfOk result (λ n. Counts n out.new) }
+pub fn next_numbers<R: Read>(input: &mut R, out: &mut [f64]) -> usize
+    ensures { Counts result out.new }
 {
-    let n = next_length(input, out.len())?;
+    let n = next_length(input, out.len());
     let mut i = 0;
     while i < n {
-        out[i] = number(next(input)?);
+        out[i] = number(next(input));
         i += 1;
     }
-    Ok(n)
+    n
 }
