@@ -92,11 +92,18 @@ class PlaneCut(Published):
         return found
 
     def cell_middle(self) -> np.ndarray:
-        """The mean of the points that the cut gives for each of `cells`, in space."""
+        """The mean of the points that the cut gives for each of `cells`."""
+        return self._cell_means(self.points)
+
+    def cell_middle_in_space(self) -> np.ndarray:
+        """The same in space, three numbers each; an origin far away costs it no digit."""
+        return self.near.in_space(self._cell_means(self.near_points))
+
+    def _cell_means(self, points: np.ndarray) -> np.ndarray:
         first, after = self.cell_points.T
         if not len(self.cells):
-            return np.zeros((0, 3))
-        return self.near.in_space(np.add.reduceat(self.near_points[: after[-1]], first, axis=0) / (after - first)[:, None])
+            return np.zeros((0, 2))
+        return np.add.reduceat(points[: after[-1]], first, axis=0) / (after - first)[:, None]
 
     def undrawn_points(self) -> dict[int, np.ndarray]:
         """For each cell with edges that were not drawn: the points that the cut gives for it."""

@@ -159,7 +159,7 @@ def cell_rows(cut: PlaneCut) -> list[tuple]:
     return [
         (cell, str(name), group, *counts, area, *middle) for cell, name, group, counts, area, middle in zip(
             cut.cells.tolist(), cut.mesh.type_of(cut.cells), group_names(cut, cut.cells), cut.counts.tolist(),
-            cut.cell_area().tolist(), cut.cell_middle().tolist())
+            cut.cell_area().tolist(), cut.cell_middle_in_space().tolist())
     ]
 
 

@@ -21,6 +21,11 @@ def test_wrong_programs_are_listed():
     assert f"<!-- wrong programs -->\n{done.stdout}\n<!-- wrong programs -->\n" in (ROOT / "docs" / "CLAIMS.md").read_text()
 
 
+def test_package_has_the_page():
+    """The page for an auditor shows docs/CLAIMS.md from a copy in the package's folder."""
+    assert (ROOT / "python" / "cicelybeam" / "CLAIMS.md").read_text() == (ROOT / "docs" / "CLAIMS.md").read_text(), "cp docs/CLAIMS.md python/cicelybeam/"
+
+
 @pytest.mark.parametrize("paper", PAPERS, ids=lambda path: str(path.relative_to(ROOT)))
 def test_links_lead_to_files(paper):
     for link in re.findall(r"\]\(([^)#]+)(?:#[^)]*)?\)", paper.read_text()):

@@ -98,7 +98,7 @@ onward c k w = record { nodes = c ∷ w.nodes; edges = k ∷ w.edges; closed = w
 
 -- The rest of a walk that started at s, from the point c on: back tells whether c is s, and choice what the junction at c gives.
 -- An open walk ends where the choice is nothing. The first number bounds the steps; it is never used up, since each step uses an edge
--- (`Rest-from` in crates/stitch/proofs/Joined.antt).
+-- (`rest_from` in crates/stitch/proofs/Joined.antt).
 unfoldable pub rest : List Vector → List Edge → ℕ → Bool → Next → ℕ → ℕ → List Bool → Walk
 unfolding next_edge
 rest ps es zero back choice s c used = record { nodes = []; edges = []; closed = back; used = used }
