@@ -30,8 +30,9 @@ fn made() -> PathBuf {
     let root = Path::new(env!("CARGO_MANIFEST_DIR")).join("..");
     let mut sources = vec![root.join("crates.txt")];
     for part in ["src", "specs", "proofs"] {
-        let crates = fs::read_dir(root.join("crates"));
-        let parts = crates.into_iter().flatten().flatten().map(|e| e.path().join(part));
+        // not a crate's out/, which rt writes
+        let crates = fs::read_dir(root.join("crates")).into_iter().flatten();
+        let parts = crates.flatten().map(|entry| entry.path().join(part));
         sources.extend(parts.filter(|path| path.exists()));
     }
     for source in &sources {
