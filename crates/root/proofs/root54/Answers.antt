@@ -7,32 +7,32 @@ use Rattle.root.proofs.root54.Goals.{In-loop-i}
 pub loop-i-init : goal.loop-i-init
 loop-i-init c = (omega arith, first c.args.m c.requires)
 
-in-turn : (c : In-loop-i) → c.loop-i.q < 9007199254740992
-in-turn c = bound c.loop-i.invariant.1 c.loop-i-test.true
+in_turn : (c : In-loop-i) → c.loop-i.q < 9007199254740992
+in_turn c = bound c.loop-i.invariant.1 c.loop-i-test.true
 
 pub overflow_mul-next : goal.overflow_mul-next
-overflow_mul-next c = omega (arith, in-turn c)
+overflow_mul-next c = omega (arith, in_turn c)
 
 pub overflow_add-next : goal.overflow_add-next
-overflow_add-next c = omega (arith, in-turn c)
+overflow_add-next c = omega (arith, in_turn c)
 
 pub overflow_mul-odd : goal.overflow_mul-odd
-overflow_mul-odd c = omega (arith, in-turn c)
+overflow_mul-odd c = omega (arith, in_turn c)
 
 pub overflow_add-odd : goal.overflow_add-odd
-overflow_add-odd c = omega (arith, in-turn c)
+overflow_add-odd c = omega (arith, in_turn c)
 
 pub overflow_mul-rest : goal.overflow_mul-rest
-overflow_mul-rest c = omega (arith, in-turn c)
+overflow_mul-rest c = omega (arith, in_turn c)
 
 pub overflow_mul-q : goal.overflow_mul-q
-overflow_mul-q c = omega (arith, in-turn (goal.at.overflow_mul-q c).In-loop-i)
+overflow_mul-q c = omega (arith, in_turn (goal.at.overflow_mul-q c).In-loop-i)
 
 pub overflow_add-q : goal.overflow_add-q
-overflow_add-q c = omega (arith, in-turn (goal.at.overflow_add-q c).In-loop-i)
+overflow_add-q c = omega (arith, in_turn (goal.at.overflow_add-q c).In-loop-i)
 
 pub overflow_mul-q-else-odd-next : goal.overflow_mul-q-else-odd-next
-overflow_mul-q-else-odd-next c = omega (arith, in-turn (goal.at.overflow_mul-q-else-odd-next c).In-loop-i)
+overflow_mul-q-else-odd-next c = omega (arith, in_turn (goal.at.overflow_mul-q-else-odd-next c).In-loop-i)
 
 pub overflow_add-i : goal.overflow_add-i
 overflow_add-i c = omega arith

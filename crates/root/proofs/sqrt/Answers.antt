@@ -16,9 +16,9 @@ no_nan nan e = subst T (sym nan_differs ∙ e) tt
 no_nan (inf s) e = tt
 no_nan (fin s m e) d = tt
 
-nan-root : nan ≡ sqrt_of binary64 nan
+nan_root : nan ≡ sqrt_of binary64 nan
 unfolding sqrt_of
-nan-root = refl
+nan_root = refl
 
 same : (x : Float) → T (fits binary64 x) → of_bits binary64 (to_bits binary64 x) ≡ x
 same x h = of_bits-to_bits binary64 x h
@@ -35,7 +35,7 @@ root_of_bits-requires c =
 pub returns-then-x : goal.returns-then-x
 returns-then-x c =
     let e = differs_from_itself c.args.x (subst T (sym c.if-x.true) tt) in
-    subst (λ (x : Float). x ≡ sqrt_of binary64 x) (sym e) nan-root
+    subst (λ (x : Float). x ≡ sqrt_of binary64 x) (sym e) nan_root
 
 pub returns-else-x : goal.returns-else-x
 returns-else-x c = c.root_of_bits.ensures ∙ ap (sqrt_of binary64) (same c.args.x (held (goal.at.returns-else-x c).Start))

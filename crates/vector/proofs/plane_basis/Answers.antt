@@ -6,8 +6,8 @@ use Rattle.vector.proofs.plane_basis.Goals as goal
 use Rattle.vector.proofs.plane_basis.Goals.{After-unit}
 
 -- what `unit` is taken of
-u-is : (c : After-unit) → unit3 c.unit.result ≡ unit (lean (least_aligned_axis (vec3 c.args.normal)) (vec3 c.args.normal))
-u-is c =
+u_is : (c : After-unit) → unit3 c.unit.result ≡ unit (lean (least_aligned_axis (vec3 c.args.normal)) (vec3 c.args.normal))
+u_is c =
     let seed = c.least_aligned_axis-seed in
     c.unit.ensures
     ∙ ap unit (c.minus.ensures
@@ -16,8 +16,8 @@ u-is c =
 
 pub returns-in_default : goal.returns-in_default
 returns-in_default c =
-    ap (with_u (vec3 c.args.normal)) (ap unit3 (sym c.in_default.is) ∙ u-is (goal.at.returns-in_default c).After-unit)
+    ap (with_u (vec3 c.args.normal)) (ap unit3 (sym c.in_default.is) ∙ u_is (goal.at.returns-in_default c).After-unit)
 
 pub returns : goal.returns
 returns c =
-    ap (basis (vec3 c.in-Along.u)) c.cross-v.ensures ∙ ap (with_u (vec3 c.args.normal)) (ap unit3 (sym c.in-Along.is) ∙ u-is (goal.at.returns c).After-unit)
+    ap (basis (vec3 c.in-Along.u)) c.cross-v.ensures ∙ ap (with_u (vec3 c.args.normal)) (ap unit3 (sym c.in-Along.is) ∙ u_is (goal.at.returns c).After-unit)

@@ -11,13 +11,13 @@ use Rattle.walk.proofs.Lasts.{lasts_start, lasts_step, lasts_end}
 use Rattle.walk.proofs.last_edges.Goals as goal
 use Rattle.walk.proofs.last_edges.Goals.{After-wide-b}
 
-first-in : (c : After-wide-b) → c.wide-a.result < length c.args.last.now
-first-in c =
+first_in : (c : After-wide-b) → c.wide-a.result < length c.args.last.now
+first_in c =
     let h = c.requires.2 c.loop-k.k c.loop-k-test.true in
     omega (arith, c.wide-a.ensures)
 
-second-in : (c : After-wide-b) → c.wide-b.result < length c.args.last.now
-second-in c =
+second_in : (c : After-wide-b) → c.wide-b.result < length c.args.last.now
+second_in c =
     let h = c.requires.3 c.loop-k.k (omega (arith, c.requires.0, c.loop-k-test.true)) in
     omega (arith, c.wide-b.ensures)
 
@@ -42,19 +42,19 @@ pub overflow_cast-last : goal.overflow_cast-last
 overflow_cast-last c = omega arith
 
 pub offset_bounds-last-a : goal.offset_bounds-last-a
-offset_bounds-last-a c = omega (arith, first-in c)
+offset_bounds-last-a c = omega (arith, first_in c)
 
 pub bounds-last-a : goal.bounds-last-a
-bounds-last-a c = omega (arith, first-in c)
+bounds-last-a c = omega (arith, first_in c)
 
 pub overflow_cast-last-in-loop-k : goal.overflow_cast-last-in-loop-k
 overflow_cast-last-in-loop-k c = omega arith
 
 pub offset_bounds-last-b : goal.offset_bounds-last-b
-offset_bounds-last-b c = omega (arith, first-in c, second-in c)
+offset_bounds-last-b c = omega (arith, first_in c, second_in c)
 
 pub bounds-last-b : goal.bounds-last-b
-bounds-last-b c = simp length-set (omega (arith, first-in c, second-in c))
+bounds-last-b c = simp length-set (omega (arith, first_in c, second_in c))
 
 pub overflow_add-k : goal.overflow_add-k
 overflow_add-k c = omega arith
@@ -74,8 +74,8 @@ loop-k-preserved c =
     ∙ ap (λ (x : ℕ). edge a x) (sym c.wide-b.ensures) in (
       omega arith,
       simp length-set l.invariant.1,
-      lasts_step (edges_of g.smaller.now g.larger.now) l.last l.k a b l.invariant.2 is (omega (arith, first-in c, l.invariant.1))
-          (omega (arith, second-in c, l.invariant.1)),
+      lasts_step (edges_of g.smaller.now g.larger.now) l.last l.k a b l.invariant.2 is (omega (arith, first_in c, l.invariant.1))
+          (omega (arith, second_in c, l.invariant.1)),
     )
 
 pub shape_of-last : goal.shape_of-last

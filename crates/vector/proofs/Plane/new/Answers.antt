@@ -6,9 +6,9 @@ use Rattle.vector.proofs.Plane.new.Goals as goal
 use Rattle.vector.proofs.Plane.new.Goals.{After-plane_basis}
 
 -- the plane from what `plane_basis` finds
-from-basis : (c : After-plane_basis) (o : Vector) (b : Basis) → b ≡ basis_of c.plane_basis.result
+from_basis : (c : After-plane_basis) (o : Vector) (b : Basis) → b ≡ basis_of c.plane_basis.result
     → with_basis o (vec3 c.in-Along.n) b ≡ plane_of o (vec3 c.args.normal)
-from-basis c o b h =
+from_basis c o b h =
     ap (with_basis o (vec3 c.in-Along.n)) (h ∙ c.plane_basis.ensures)
     ∙ ap (with_normal o) (ap unit3 (sym c.in-Along.is) ∙ c.unit.ensures)
 
@@ -19,9 +19,9 @@ returns-in_default c =
 pub returns-in_default-plane_basis : goal.returns-in_default-plane_basis
 returns-in_default-plane_basis c =
     let o = vec3 c.args.origin in
-    from-basis (goal.at.returns-in_default-plane_basis c).After-plane_basis o baseless (ap basis_of (sym c.in_default-plane_basis.is))
+    from_basis (goal.at.returns-in_default-plane_basis c).After-plane_basis o baseless (ap basis_of (sym c.in_default-plane_basis.is))
 
 pub returns : goal.returns
 returns c =
     let o = vec3 c.args.origin in
-    from-basis (goal.at.returns c).After-plane_basis o (basis (vec3 c.in-Basis.u) (vec3 c.in-Basis.v)) (ap basis_of (sym c.in-Basis.is))
+    from_basis (goal.at.returns c).After-plane_basis o (basis (vec3 c.in-Basis.u) (vec3 c.in-Basis.v)) (ap basis_of (sym c.in-Basis.is))
