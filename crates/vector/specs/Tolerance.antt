@@ -5,8 +5,6 @@ use Rattle.std.specs.Float.{inf, fin, binary64}
 use Rattle.std.specs.Float.Ieee.{add, sub, mul, lt, le, is_nan}
 use Rattle.rows.specs.Outcome.{Outcome, refused, found, unless}
 use Rattle.vector.specs.Number.{f0, abs}
-use Rattle.vector.specs.declared.Tolerance as T
-use Rattle.vector.specs.declared.Tolerance.TheVariants as t
 
 -- the lesser of two: the second only where its test holds, so that a NaN there is passed over
 abbrev pub lesser : Float → Float → Float
@@ -82,8 +80,3 @@ pub record ToldTolerance : Type 0 where
 abbrev pub told_tolerance : Outcome Float → ToldTolerance
 told_tolerance (refused k) = record { refusal = k; value = f0 }
 told_tolerance (found x) = record { refusal = 0; value = x }
-
--- the rules' number and value for each case of the code's answer
-abbrev pub tolerance_told : T.Tolerance → ToldTolerance
-tolerance_told (t.Refused k) = record { refusal = k; value = f0 }
-tolerance_told (t.Of x) = record { refusal = 0; value = x }

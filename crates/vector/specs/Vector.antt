@@ -1,9 +1,10 @@
 -- Points and vectors as lists of floats, over the width: the unit vector, the cutting plane, projection. Definitions only.
-use Rattle.std.specs.Prelude.{List, [], ◌∷◌, map, cond, ◌&&◌, ℕ, get_or, Float}
+use Rattle.std.specs.Prelude.{List, [], ◌∷◌, map, cond, ◌&&◌, ℕ, get_or, Float, Option, Some, None}
 use Rattle.std.specs.Float.{nan, binary64}
 use Rattle.std.specs.Float.Ieee.{add, sub, mul, div, neg, lt, le}
 use Rattle.root.specs.Root.{sqrt_of}
 use Rattle.vector.specs.Number.{f0, f1, abs}
+use Rattle.vector.specs.declared.Plane.{Plane}
 
 -- a point or a vector, one float a coordinate
 abbrev pub Vector : Type 0
@@ -54,15 +55,10 @@ distance o n p = dot (diff p o) n
 abbrev pub norm : Vector → Float
 norm a = sqrt_of binary64 (dot a a)
 
--- what `unit` finds: the unit vector, or a norm that is not greater than 0
-pub data Direction : Type 0 where
-  along : Vector → Direction
-  nowhere : Direction
-
 -- each component divided by the norm, which must be greater than 0
-unfoldable pub unit : Vector → Direction
+unfoldable pub unit : Vector → Option Vector
 unfolding dot_from sqrt_of lt div
-unit a = let n = norm a in cond (lt f0 n) (along (map (λ x. div binary64 x n) a)) nowhere
+unit a = let n = norm a in cond (lt f0 n) (Some (map (λ x. div binary64 x n) a)) None
 
 -- ---- the plane
 
@@ -91,79 +87,62 @@ cross a b = minor a b 1 2 ∷ minor a b 2 0 ∷ minor a b 0 1 ∷ []
 abbrev pub lean : Vector → Vector → Vector
 lean seed n = diff seed (scale (dot seed n) n)
 
--- the two in-plane vectors, or that u has no unit
-pub data Basis : Type 0 where
-  basis : Vector → Vector → Basis
-  baseless : Basis
-
 -- v is normal cross u
-abbrev pub with_u : Vector → Direction → Basis
-with_u n nowhere = baseless
-with_u n (along u) = basis u (cross n u)
+abbrev pub with_u : Vector → Option Vector → Option (Vector × Vector)
+with_u n None = None
+with_u n (Some u) = Some (u, cross n u)
 
--- u and v of a plane with the unit normal n
-abbrev pub plane_basis : Vector → Basis
+-- u and v of a plane with the unit normal n, unless u has no unit
+abbrev pub plane_basis : Vector → Option (Vector × Vector)
 plane_basis n = with_u n (unit (lean (least_aligned_axis n) n))
 
--- a plane: its origin, unit normal and the two in-plane vectors
-pub record Frame : Type 0 where
-  pub origin : Vector
-  pub normal : Vector
-  pub u : Vector
-  pub v : Vector
-
--- a plane, or that a unit was to be taken of a vector that has none
-pub data Framed : Type 0 where
-  framed : Frame → Framed
-  unframed : Framed
-
 -- from the unit normal and the in-plane vectors
-abbrev pub with_basis : Vector → Vector → Basis → Framed
-with_basis o n baseless = unframed
-with_basis o n (basis u v) = framed (record { origin = o; normal = n; u = u; v = v })
+abbrev pub with_basis : Vector → Vector → Option (Vector × Vector) → Option Plane
+with_basis o n None = None
+with_basis o n (Some (u, v)) = Some (record { origin = o; normal = n; u = u; v = v })
 
 -- from what `unit` finds of the normal
-abbrev pub with_normal : Vector → Direction → Framed
-with_normal o nowhere = unframed
-with_normal o (along n) = with_basis o n (plane_basis n)
+abbrev pub with_normal : Vector → Option Vector → Option Plane
+with_normal o None = None
+with_normal o (Some n) = with_basis o n (plane_basis n)
 
--- the plane through o with the normal n
-abbrev pub plane_of : Vector → Vector → Framed
+-- the plane through o with the normal n, unless a vector has no unit
+abbrev pub plane_of : Vector → Vector → Option Plane
 plane_of o n = with_normal o (unit n)
 
 -- ---- the plane that holds a line in space
 
 -- its normal is direction cross e2, not made unit again; u = direction, v = e2
-abbrev pub with_e2 : Vector → Vector → Direction → Framed
-with_e2 o d nowhere = unframed
-with_e2 o d (along e) = framed (record { origin = o; normal = cross d e; u = d; v = e })
+abbrev pub with_e2 : Vector → Vector → Option Vector → Option Plane
+with_e2 o d None = None
+with_e2 o d (Some e) = Some (record { origin = o; normal = cross d e; u = d; v = e })
 
 -- e2 is the unit of direction cross seed
-abbrev pub with_direction : Vector → Direction → Framed
-with_direction o nowhere = unframed
-with_direction o (along d) = with_e2 o d (unit (cross d (least_aligned_axis d)))
+abbrev pub with_direction : Vector → Option Vector → Option Plane
+with_direction o None = None
+with_direction o (Some d) = with_e2 o d (unit (cross d (least_aligned_axis d)))
 
 -- the plane of the line through o with the direction d
-abbrev pub line_of : Vector → Vector → Framed
+abbrev pub line_of : Vector → Vector → Option Plane
 line_of o d = with_direction o (unit d)
 
 -- ---- into the plane's own coordinates and back
 
 -- (p - origin) · u and (p - origin) · v
-abbrev pub project : Frame → Vector → Vector
+abbrev pub project : Plane → Vector → Vector
 project f p = distance f.origin f.u p ∷ distance f.origin f.v p ∷ []
 
 -- origin + p[0] u + p[1] v
-abbrev pub deproject : Frame → Vector → Vector
+abbrev pub deproject : Plane → Vector → Vector
 deproject f p = plus (plus f.origin (scale (at p 0) f.u)) (scale (at p 1) f.v)
 
 -- ---- a line in the plane
 
 -- the unit of (-b, a), with (a, b) the unit direction
-abbrev pub turned : Direction → Direction
-turned nowhere = nowhere
-turned (along d) = unit (neg (at d 1) ∷ at d 0 ∷ [])
+abbrev pub turned : Option Vector → Option Vector
+turned None = None
+turned (Some d) = unit (neg (at d 1) ∷ at d 0 ∷ [])
 
 -- its normal from a direction
-abbrev pub normal_along : Vector → Direction
+abbrev pub normal_along : Vector → Option Vector
 normal_along d = turned (unit d)

@@ -1,453 +1,271 @@
 // Numbers, points and vectors in the plane and in space, the cutting plane, rows of a flat slice, and the tolerance.
 #![tactic(auto)]
 
-ghost use Rattle.std.specs.Prelude.{◌≡◌, ◌&&◌, ◌+◌, ◌*◌, ◌<◌, ◌≤◌, length};
-ghost use Rattle.std.specs.Float.Ieee.{le};
+ghost use Rattle.std.specs.Prelude.{◌≡◌, ◌+◌, ◌*◌, ◌<◌, ◌≤◌, length, map};
+ghost use Rattle.std.specs.Float.{binary64};
+ghost use Rattle.std.specs.Float.Ieee.{div};
+ghost use Rattle.rows.specs.Refusals.{outcome_of};
 ghost use Rattle.vector.specs.Number.{abs};
 ghost use Rattle.vector.specs.Vector.{cross, deproject, diff, dist2, distance, dot, least_aligned_axis};
 ghost use Rattle.vector.specs.Vector.{line_of, normal_along, plane_basis, plane_of, plus, project, scale, unit};
 ghost use Rattle.vector.specs.Rows.{put, row};
-ghost use Rattle.vector.specs.View.{basis_of, frame_of, placed, unit2, unit3, vec2, vec3};
-ghost use Rattle.vector.specs.Tolerance.{column, extent, greater, lesser, magnitude, spread, tolerance};
-ghost use Rattle.vector.specs.Tolerance.{told_tolerance, tolerance_of, tolerance_told};
+ghost use Rattle.vector.specs.Tolerance.{column, extent, greater, lesser, magnitude, spread, tolerance, tolerance_of};
+
+use rows::Refusal;
 
 // A cutting plane: its origin, its unit normal and the two in-plane vectors.
 #[derive(Clone, Copy)]
 pub struct Plane {
-    pub origin: Vec3,
-    pub normal: Vec3,
-    pub u: Vec3,
-    pub v: Vec3,
-}
-
-// A plane, or that a vector to be made unit has a norm that is not greater than 0.
-#[derive(Clone, Copy)]
-pub enum Placed {
-    On(Plane),
-    Nowhere,
-}
-
-// The in-plane vectors u and v, or that u has no unit.
-#[derive(Clone, Copy)]
-pub enum InPlane {
-    Basis(Vec3, Vec3),
-    Nowhere,
+    pub origin: [f64; 3],
+    pub normal: [f64; 3],
+    pub u: [f64; 3],
+    pub v: [f64; 3],
 }
 
 impl Plane {
-    // The plane through origin with this normal.
-    pub fn new(origin: Vec3, normal: Vec3) -> Placed
-        ensures { placed result ≡ plane_of (vec3 origin) (vec3 normal) }
+    // The plane through origin with this normal; none where a vector has no unit.
+    pub fn new(origin: [f64; 3], normal: [f64; 3]) -> Option<Plane>
+        ensures { result ≡ plane_of origin normal }
     {
-        let Unit3::Along(n) = normal.unit() else {
-            return Placed::Nowhere;
-        };
-        let InPlane::Basis(u, v) = plane_basis(n) else {
-            return Placed::Nowhere;
-        };
-        Placed::On(Plane {
-            origin: origin,
-            normal: n,
-            u: u,
-            v: v,
+        let normal = unit(normal)?;
+        let (u, v) = plane_basis(normal)?;
+        Some(Plane {
+            origin,
+            normal,
+            u,
+            v,
         })
     }
 
     // A plane that contains the line through origin with this direction. Its basis is (direction, e2), so
     // that the line is y = 0 there.
-    pub fn of_line(origin: Vec3, direction: Vec3) -> Placed
-        ensures { placed result ≡ line_of (vec3 origin) (vec3 direction) }
+    pub fn of_line(origin: [f64; 3], direction: [f64; 3]) -> Option<Plane>
+        ensures { result ≡ line_of origin direction }
     {
-        let Unit3::Along(d) = direction.unit() else {
-            return Placed::Nowhere;
-        };
-        let seed = d.least_aligned_axis();
-        let Unit3::Along(e2) = d.cross(seed).unit() else {
-            return Placed::Nowhere;
-        };
-        let n = d.cross(e2);
-        Placed::On(Plane {
-            origin: origin,
-            normal: n,
+        let d = unit(direction)?;
+        let seed = least_aligned_axis(d);
+        let e2 = unit(cross(d, seed))?;
+        let normal = cross(d, e2);
+        Some(Plane {
+            origin,
+            normal,
             u: d,
             v: e2,
         })
     }
 
     // The coordinates of p in the plane.
-    pub fn project(self, p: Vec3) -> Vec2
-        ensures { vec2 result ≡ project (frame_of self) (vec3 p) }
+    pub fn project(self, p: [f64; 3]) -> [f64; 2]
+        ensures { result ≡ project self p }
     {
-        let d = p.minus(self.origin);
-        Vec2 {
-            x: d.dot(self.u),
-            y: d.dot(self.v),
-        }
+        let d = minus(p, self.origin);
+        [dot(d, self.u), dot(d, self.v)]
     }
 
     // The point of space with the coordinates p in the plane.
-    pub fn deproject(self, p: Vec2) -> Vec3
-        ensures { vec3 result ≡ deproject (frame_of self) (vec2 p) }
+    pub fn deproject(self, p: [f64; 2]) -> [f64; 3]
+        ensures { result ≡ deproject self p }
     {
-        Vec3 {
-            x: self.origin.x + p.x * self.u.x + p.y * self.v.x,
-            y: self.origin.y + p.x * self.u.y + p.y * self.v.y,
-            z: self.origin.z + p.x * self.u.z + p.y * self.v.z,
-        }
+        let along_u = plus(self.origin, scaled(self.u, p[0]));
+        plus(along_u, scaled(self.v, p[1]))
     }
 }
 
 // In-plane basis (u, v) with u x v = normal.
-fn plane_basis(normal: Vec3) -> InPlane
-    ensures { basis_of result ≡ plane_basis (vec3 normal) }
+fn plane_basis(normal: [f64; 3]) -> Option<([f64; 3], [f64; 3])>
+    ensures { result ≡ plane_basis normal }
 {
-    let seed = normal.least_aligned_axis();
-    let d = seed.dot(normal);
-    let Unit3::Along(u) = seed.minus(normal.scaled(d)).unit() else {
-        return InPlane::Nowhere;
-    };
-    let v = normal.cross(u);
-    InPlane::Basis(u, v)
+    let seed = least_aligned_axis(normal);
+    let d = dot(seed, normal);
+    let u = unit(minus(seed, scaled(normal, d)))?;
+    let v = cross(normal, u);
+    Some((u, v))
 }
 
-// A point or a vector in space.
-#[derive(Clone, Copy)]
-pub struct Vec3 {
-    pub x: f64,
-    pub y: f64,
-    pub z: f64,
-}
-
-// A unit vector, or a norm that is not greater than 0.
-#[derive(Clone, Copy)]
-pub enum Unit3 {
-    Along(Vec3),
-    Nowhere,
-}
-
-impl Vec3 {
-    // Each component divided by the norm.
-    pub fn unit(self) -> Unit3
-        ensures { unit3 result ≡ unit (vec3 self) }
-    {
-        let n = root::sqrt(self.dot(self));
-        if n > 0.0 {
-            return Unit3::Along(Vec3 {
-                x: self.x / n,
-                y: self.y / n,
-                z: self.z / n,
-            });
-        }
-        Unit3::Nowhere
-    }
-
-    // The dot product, summed from plus zero.
-    pub fn dot(self, b: Vec3) -> f64
-        ensures { result ≡ dot (vec3 self) (vec3 b) }
-    {
-        0.0 + self.x * b.x + self.y * b.y + self.z * b.z
-    }
-
-    // The squared distance.
-    pub fn dist2(self, b: Vec3) -> f64
-        ensures { result ≡ dist2 (vec3 self) (vec3 b) }
-    {
-        let d = self.minus(b);
-        d.dot(d)
-    }
-
-    // The signed distance from the plane through origin with this normal.
-    pub fn distance(self, origin: Vec3, normal: Vec3) -> f64
-        ensures { result ≡ distance (vec3 origin) (vec3 normal) (vec3 self) }
-    {
-        self.minus(origin).dot(normal)
-    }
-
-    // self - b.
-    pub fn minus(self, b: Vec3) -> Vec3
-        ensures { vec3 result ≡ diff (vec3 self) (vec3 b) }
-    {
-        Vec3 {
-            x: self.x - b.x,
-            y: self.y - b.y,
-            z: self.z - b.z,
-        }
-    }
-
-    // self + b.
-    pub fn plus(self, b: Vec3) -> Vec3
-        ensures { vec3 result ≡ plus (vec3 self) (vec3 b) }
-    {
-        Vec3 {
-            x: self.x + b.x,
-            y: self.y + b.y,
-            z: self.z + b.z,
-        }
-    }
-
-    // k times self.
-    pub fn scaled(self, k: f64) -> Vec3
-        ensures { vec3 result ≡ scale k (vec3 self) }
-    {
-        Vec3 {
-            x: k * self.x,
-            y: k * self.y,
-            z: k * self.z,
-        }
-    }
-
-    // The cross product.
-    pub fn cross(self, b: Vec3) -> Vec3
-        ensures { vec3 result ≡ cross (vec3 self) (vec3 b) }
-    {
-        Vec3 {
-            x: self.y * b.z - self.z * b.y,
-            y: self.z * b.x - self.x * b.z,
-            z: self.x * b.y - self.y * b.x,
-        }
-    }
-
-    // Coordinate axis least aligned with self, used to build a well-conditioned basis.
-    pub fn least_aligned_axis(self) -> Vec3
-        ensures { vec3 result ≡ least_aligned_axis (vec3 self) }
-    {
-        let a = absolute(self.x);
-        let b = absolute(self.y);
-        let c = absolute(self.z);
-        if at_most_both(a, b, c) {
-            return Vec3 {
-                x: 1.0,
-                y: 0.0,
-                z: 0.0,
-            };
-        }
-        if b <= c {
-            return Vec3 {
-                x: 0.0,
-                y: 1.0,
-                z: 0.0,
-            };
-        }
-        Vec3 {
-            x: 0.0,
-            y: 0.0,
-            z: 1.0,
-        }
-    }
-}
-
-// Whether a is at most b and at most c.
-fn at_most_both(a: f64, b: f64, c: f64) -> bool
-    ensures { result ≡ le a b && le a c }
+// Each coordinate divided by the norm; none where the norm is not greater than 0.
+pub fn unit<const D: usize>(v: [f64; D]) -> Option<[f64; D]>
+    ensures { result ≡ unit v.entry }
 {
-    if a <= b {
-        return a <= c;
+    let n = root::sqrt(dot(v, v));
+    if n > 0.0 {
+        return Some(divided(v, n));
     }
-    false
+    None
 }
 
-// A point or a vector in the plane.
-#[derive(Clone, Copy)]
-pub struct Vec2 {
-    pub x: f64,
-    pub y: f64,
-}
-
-// A unit vector, or a norm that is not greater than 0.
-#[derive(Clone, Copy)]
-pub enum Unit2 {
-    Along(Vec2),
-    Nowhere,
-}
-
-impl Vec2 {
-    // The unit normal of a line with this direction. A normal given for the line is made unit by `unit`.
-    pub fn normal_along(self) -> Unit2
-        ensures { unit2 result ≡ normal_along (vec2 self) }
-    {
-        let Unit2::Along(d) = self.unit() else {
-            return Unit2::Nowhere;
-        };
-        let n = Vec2 { x: -d.y, y: d.x };
-        n.unit()
-    }
-
-    // Each component divided by the norm.
-    pub fn unit(self) -> Unit2
-        ensures { unit2 result ≡ unit (vec2 self) }
-    {
-        let n = root::sqrt(self.dot(self));
-        if n > 0.0 {
-            return Unit2::Along(Vec2 {
-                x: self.x / n,
-                y: self.y / n,
-            });
-        }
-        Unit2::Nowhere
-    }
-
-    // The dot product, summed from plus zero.
-    pub fn dot(self, b: Vec2) -> f64
-        ensures { result ≡ dot (vec2 self) (vec2 b) }
-    {
-        0.0 + self.x * b.x + self.y * b.y
-    }
-
-    // The squared distance.
-    pub fn dist2(self, b: Vec2) -> f64
-        ensures { result ≡ dist2 (vec2 self) (vec2 b) }
-    {
-        let d = self.minus(b);
-        d.dot(d)
-    }
-
-    // The signed distance from the line through origin with this normal.
-    pub fn distance(self, origin: Vec2, normal: Vec2) -> f64
-        ensures { result ≡ distance (vec2 origin) (vec2 normal) (vec2 self) }
-    {
-        self.minus(origin).dot(normal)
-    }
-
-    // self - b.
-    pub fn minus(self, b: Vec2) -> Vec2
-        ensures { vec2 result ≡ diff (vec2 self) (vec2 b) }
-    {
-        Vec2 {
-            x: self.x - b.x,
-            y: self.y - b.y,
-        }
-    }
-
-    // self + b.
-    pub fn plus(self, b: Vec2) -> Vec2
-        ensures { vec2 result ≡ plus (vec2 self) (vec2 b) }
-    {
-        Vec2 {
-            x: self.x + b.x,
-            y: self.y + b.y,
-        }
-    }
-
-    // k times self.
-    pub fn scaled(self, k: f64) -> Vec2
-        ensures { vec2 result ≡ scale k (vec2 self) }
-    {
-        Vec2 {
-            x: k * self.x,
-            y: k * self.y,
-        }
-    }
-}
-
-// Row i of points in space.
-pub fn coord3(xs: &[f64], i: usize) -> Vec3
-    requires { 3 * i + 2 < length xs.now }
-    ensures { vec3 result ≡ row 3 xs.now i }
+// Each coordinate divided by n.
+fn divided<const D: usize>(v: [f64; D], n: f64) -> [f64; D]
+    ensures { result ≡ map (λ x. div binary64 x n) v.entry }
 {
-    Vec3 {
-        x: xs[3 * i],
-        y: xs[3 * i + 1],
-        z: xs[3 * i + 2],
+    let mut u = v;
+    for k in 0..D {
+        u[k] = v[k] / n;
+    }
+    u
+}
+
+// The dot product, summed from plus zero.
+pub fn dot<const D: usize>(a: [f64; D], b: [f64; D]) -> f64
+    ensures { result ≡ dot a.entry b.entry }
+{
+    let mut s = 0.0;
+    for k in 0..D {
+        s += a[k] * b[k];
+    }
+    s
+}
+
+// The squared distance.
+pub fn dist2<const D: usize>(a: [f64; D], b: [f64; D]) -> f64
+    ensures { result ≡ dist2 a.entry b.entry }
+{
+    let d = minus(a, b);
+    dot(d, d)
+}
+
+// The signed distance of p from the plane or line through origin with this normal.
+pub fn distance<const D: usize>(p: [f64; D], origin: [f64; D], normal: [f64; D]) -> f64
+    ensures { result ≡ distance origin.entry normal.entry p.entry }
+{
+    dot(minus(p, origin), normal)
+}
+
+// a - b.
+pub fn minus<const D: usize>(a: [f64; D], b: [f64; D]) -> [f64; D]
+    ensures { result ≡ diff a.entry b.entry }
+{
+    let mut d = a;
+    for k in 0..D {
+        d[k] = a[k] - b[k];
+    }
+    d
+}
+
+// a + b.
+pub fn plus<const D: usize>(a: [f64; D], b: [f64; D]) -> [f64; D]
+    ensures { result ≡ plus a.entry b.entry }
+{
+    let mut s = a;
+    for k in 0..D {
+        s[k] = a[k] + b[k];
+    }
+    s
+}
+
+// t times a.
+pub fn scaled<const D: usize>(a: [f64; D], t: f64) -> [f64; D]
+    ensures { result ≡ scale t a.entry }
+{
+    let mut s = a;
+    for k in 0..D {
+        s[k] = t * a[k];
+    }
+    s
+}
+
+// The cross product.
+pub fn cross(a: [f64; 3], b: [f64; 3]) -> [f64; 3]
+    ensures { result ≡ cross a b }
+{
+    [
+        a[1] * b[2] - a[2] * b[1],
+        a[2] * b[0] - a[0] * b[2],
+        a[0] * b[1] - a[1] * b[0],
+    ]
+}
+
+// Coordinate axis least aligned with a vector, used to build a well-conditioned basis.
+pub fn least_aligned_axis(vector: [f64; 3]) -> [f64; 3]
+    ensures { result ≡ least_aligned_axis vector }
+{
+    let a = absolute(vector[0]);
+    let b = absolute(vector[1]);
+    let c = absolute(vector[2]);
+    if a <= b && a <= c {
+        [1.0, 0.0, 0.0]
+    } else if b <= c {
+        [0.0, 1.0, 0.0]
+    } else {
+        [0.0, 0.0, 1.0]
     }
 }
 
-// Row i of points in the plane.
-pub fn coord2(xs: &[f64], i: usize) -> Vec2
-    requires { 2 * i + 1 < length xs.now }
-    ensures { vec2 result ≡ row 2 xs.now i }
+// The unit normal of a line in the plane with this direction. A normal given for the line is made unit by `unit`.
+pub fn normal_along(direction: [f64; 2]) -> Option<[f64; 2]>
+    ensures { result ≡ normal_along direction }
 {
-    Vec2 {
-        x: xs[2 * i],
-        y: xs[2 * i + 1],
+    let d = unit(direction)?;
+    unit([-d[1], d[0]])
+}
+
+// Row i of points of D coordinates.
+pub fn coord<const D: usize>(xs: &[f64], i: usize) -> [f64; D]
+    requires { D * i + D ≤ length xs.now }
+    ensures { result ≡ row D xs.now i }
+{
+    let mut p = [0.0; D];
+    for k in 0..D {
+        p[k] = xs[D * i + k];
+    }
+    p
+}
+
+// Writes p as row i of points of D coordinates.
+pub fn put<const D: usize>(xs: &mut [f64], i: usize, p: [f64; D])
+    requires { D * i + D ≤ length xs.old }
+    ensures { xs.new ≡ put D xs.old i p.entry }
+{
+    for k in 0..D {
+        xs[D * i + k] = p[k];
     }
 }
 
-// Writes p as row i of points in space.
-pub fn put3(xs: &mut [f64], i: usize, p: Vec3)
-    requires { 3 * i + 2 < length xs.old }
-    ensures { xs.new ≡ put 3 xs.old i (vec3 p) }
+// The tolerance of a mesh by its coordinates, D a row.
+pub fn tolerance<const D: usize>(xs: &[f64]) -> Result<f64, Refusal>
+    requires { 0 < D }
+    ensures { outcome_of result ≡ tolerance_of D xs.now }
 {
-    xs[3 * i] = p.x;
-    xs[3 * i + 1] = p.y;
-    xs[3 * i + 2] = p.z;
-}
-
-// Writes p as row i of points in the plane.
-pub fn put2(xs: &mut [f64], i: usize, p: Vec2)
-    requires { 2 * i + 1 < length xs.old }
-    ensures { xs.new ≡ put 2 xs.old i (vec2 p) }
-{
-    xs[2 * i] = p.x;
-    xs[2 * i + 1] = p.y;
-}
-
-// The number of a refusal, or the tolerance.
-#[derive(Clone, Copy)]
-pub enum Tolerance {
-    Refused(u8),
-    Of(f64),
-}
-
-// The tolerance of a mesh in space, by its coordinates.
-pub fn tolerance_in_space(xs: &[f64]) -> Tolerance
-    ensures { tolerance_told result ≡ told_tolerance (tolerance_of 3 xs.now) }
-{
-    if xs.len() % 3 != 0 {
-        return Tolerance::Refused(3);
+    if xs.len() % D != 0 {
+        return Err(Refusal::PartialRow);
     }
-    Tolerance::Of(slice_tolerance(xs, 3))
+    Ok(slice_tolerance::<D>(xs))
 }
 
-// The tolerance of a mesh in the plane.
-pub fn tolerance_in_plane(xs: &[f64]) -> Tolerance
-    ensures { tolerance_told result ≡ told_tolerance (tolerance_of 2 xs.now) }
+// Tolerance of the geometric predicates, scaled to the extent and the coordinates, D a row.
+pub fn slice_tolerance<const D: usize>(xs: &[f64]) -> f64
+    requires { 0 < D }
+    ensures { result ≡ tolerance D xs.now }
 {
-    if xs.len() % 2 != 0 {
-        return Tolerance::Refused(3);
-    }
-    Tolerance::Of(slice_tolerance(xs, 2))
-}
-
-// The difference between 1 and the next f64.
-const EPSILON: f64 = 2.220446049250313e-16;
-
-// Tolerance of the geometric predicates, scaled to the extent and the coordinates, w a row.
-pub fn slice_tolerance(xs: &[f64], w: usize) -> f64
-    requires { (0 < w) × (w ≤ 3) }
-    ensures { result ≡ tolerance w xs.now }
-{
-    if xs.len() == 0 {
+    if xs.is_empty() {
         return 1e-12;
     }
-    1e-12 * extent(xs, w) + 64.0 * EPSILON * magnitude(xs)
+    1e-12 * extent::<D>(xs) + 64.0 * f64::EPSILON * magnitude(xs)
 }
 
 // The greatest hi - lo over the axes, at least 0.
-fn extent(xs: &[f64], w: usize) -> f64
-    requires { (0 < w) × (w ≤ 3) }
-    ensures { result ≡ extent w xs.now w }
+fn extent<const D: usize>(xs: &[f64]) -> f64
+    requires { 0 < D }
+    ensures { result ≡ extent D xs.now D }
 {
     let mut e = 0.0;
-    let mut k = 0;
-    while k < w {
-        e = greater(e, spread(xs, w, k));
-        k += 1;
+    for k in 0..D {
+        e = greater(e, spread::<D>(xs, k));
     }
     e
 }
 
 // hi - lo along axis k.
-fn spread(xs: &[f64], w: usize, k: usize) -> f64
-    requires { (0 < w) × (w ≤ 3) }
-    ensures { result ≡ spread (column w k xs.now) }
+fn spread<const D: usize>(xs: &[f64], k: usize) -> f64
+    requires { k < D }
+    ensures { result ≡ spread (column D k xs.now) }
 {
-    let mut lo = 1.0 / 0.0;
-    let mut hi = -1.0 / 0.0;
-    let mut i = k;
-    while i < xs.len() {
-        lo = lesser(lo, xs[i]);
-        hi = greater(hi, xs[i]);
-        i += w;
+    let mut lo = f64::INFINITY;
+    let mut hi = f64::NEG_INFINITY;
+    for row in xs.chunks(D) {
+        if let Some(&x) = row.get(k) {
+            lo = lesser(lo, x);
+            hi = greater(hi, x);
+        }
     }
     hi - lo
 }
@@ -457,10 +275,8 @@ fn magnitude(xs: &[f64]) -> f64
     ensures { result ≡ magnitude xs.now }
 {
     let mut m = 0.0;
-    let mut i = 0;
-    while i < xs.len() {
-        m = greater(m, absolute(xs[i]));
-        i += 1;
+    for &x in xs {
+        m = greater(m, absolute(x));
     }
     m
 }

@@ -1,11 +1,6 @@
--- `vector::spread` meets its contract. Assumes nothing.
-use Prim.Native.Nat.{◌-◌}
-use lib.ListN.{length}
+use Rattle.std.proofs.Common.{◌≡◌}
 use Rattle.vector.proofs.Passes.{Ranging}
 use Rattle.vector.proofs.spread.Given as goal
 
-abbrev pub invariant-loop-i : goal.invariant-loop-i
-invariant-loop-i l = Ranging l.w l.k l.xs l.lo l.hi l.i
-
-abbrev pub decreases-loop-i : goal.decreases-loop-i
-decreases-loop-i l = length l.xs - l.i
+abbrev pub invariant-loop-row : goal.invariant-loop-row
+invariant-loop-row g l = (l.row-iterator.size ≡ g.row.D) × Ranging g.row.D l.k l.xs l.lo l.hi l.row-iterator.rest.now
