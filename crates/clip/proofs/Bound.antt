@@ -1,4 +1,5 @@
 -- At most floor(3n / 2) points and segments come of a polygon of n corners, and of faces of n corners in all. Assumes nothing.
+use Rattle.std.specs.Prelude.{Option, Some, None}
 use mathlib.Core.Path.{◌≡◌, refl, ap}
 use mathlib.Core.List.{List, [], ◌∷◌, ◌++◌}
 use mathlib.Core.Bool.{Bool, true, false, not, ◌&&◌, cond}
@@ -7,10 +8,9 @@ use native.Mathlib.Omega.{arith}
 use lib.Dec.{ltb}
 use lib.Ieee.{Float, le}
 use lib.ListN.{length, get_or, take, length-append, length-map, length-take}
-use Rattle.vector.specs.Vector.{Vector, Frame, dist2}
+use Rattle.vector.specs.Vector.{Vector, dist2}
+use Rattle.vector.specs.declared.Plane.{Plane}
 use Rattle.vector.specs.Rows.{Seg, seg}
-use Rattle.clip.specs.declared.Side.{Side}
-use Rattle.clip.specs.declared.Side.TheVariants.{Kept, Neither}
 use Rattle.clip.specs.Clip.{Cut, by_side, clip_side, clip_sides, clipped, duplicate, edges, edges_to, inside, kept_side, lies_on, outcome}
 use Rattle.clip.specs.Clip.{plane_intersection, plane_section_segments, push_all, push_segment, push_segments, push_unique, section_on}
 use Rattle.clip.specs.Clip.{segments, signed, tol_squared, unique, without_closing}
@@ -122,9 +122,9 @@ on_bound c s ps =
     let k = clipped c s ps in
     omega (arith, segments_bound c (without_closing (tol_squared c) k), closing_bound (tol_squared c) k, clipped_bound c s ps)
 
-side_kept : (c : Cut) (ps : List Vector) (g : Side) → length (by_side c ps g) ≤ at_most (length ps)
-side_kept c ps (Kept s) = on_bound c s ps
-side_kept c ps Neither = omega arith
+side_kept : (c : Cut) (ps : List Vector) (g : Option Float) → length (by_side c ps g) ≤ at_most (length ps)
+side_kept c ps (Some s) = on_bound c s ps
+side_kept c ps None = omega arith
 
 pub section_bound : (c : Cut) (ps : List Vector) → length (plane_section_segments c ps) ≤ at_most (length ps)
 unfolding plane_section_segments
@@ -138,7 +138,7 @@ section_bound c ps = by_test (ltb (length ps) 3)
 pub polygon_bound : (c : Cut) (ps : List Vector) → PolygonBound c ps
 polygon_bound c ps = record { points = λ s. clipped_bound c s ps; segments = section_bound c ps }
 
-pub cell_bound : (c : Cut) (f : Frame) (fs : List (List Vector)) → CellBound c f fs
+pub cell_bound : (c : Cut) (f : Plane) (fs : List (List Vector)) → CellBound c f fs
 cell_bound c f [] = omega arith
 cell_bound c f (ps ∷ fs) =
     omega (

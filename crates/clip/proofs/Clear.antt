@@ -1,5 +1,6 @@
 -- A face clear of the cut has no segment: each clipped point is then a corner, and no segment has an end that is not within tol.
 -- Assumes nothing.
+use Rattle.std.specs.Prelude.{Option, Some}
 use mathlib.Core.Path.{◌≡◌, refl, ap, ◌∙◌}
 use mathlib.Core.List.{List, [], ◌∷◌, ◌++◌}
 use mathlib.Core.Bool.{Bool, true, false, cond, ◌&&◌}
@@ -10,8 +11,6 @@ use lib.ListN.{length, get_or, take}
 use Rattle.vector.specs.Number.{f1, minus_one, abs}
 use Rattle.vector.specs.Vector.{Vector, dist2}
 use Rattle.vector.specs.Rows.{Seg, seg}
-use Rattle.clip.specs.declared.Side.{Side}
-use Rattle.clip.specs.declared.Side.TheVariants.{Kept}
 use Rattle.clip.specs.Clip.{Cut, any_above, any_below, away, by_side, clip_sides, clipped, edges, edges_to, kept_side}
 use Rattle.clip.specs.Clip.{plane_section_segments, push_all, push_segment, push_segments, push_unique, segments}
 use Rattle.clip.specs.Clip.{tol_squared, unique, without_closing}
@@ -99,7 +98,7 @@ clear_side c s ps h =
     off_none c (without_closing tol2 (clipped c s ps))
     (off_closing c tol2 (clipped c s ps) (off_pushes c tol2 [] (clip_sides c s (edges ps)) tt (clear_edges c s ps h)))
 
-clear_by : (c : Cut) (ps : List Vector) {g : Side} → kept_side c ps ≡ g → by_side c ps g ≡ [] → plane_section_segments c ps ≡ []
+clear_by : (c : Cut) (ps : List Vector) {g : Option Float} → kept_side c ps ≡ g → by_side c ps g ≡ [] → plane_section_segments c ps ≡ []
 unfolding plane_section_segments
 clear_by c ps e h = by_test (ltb (length ps) 3)
   where
@@ -111,7 +110,7 @@ clear_above : (c : Cut) (ps : List Vector) → Each (ClearAbove c) ps → plane_
 unfolding plane_section_segments any_above
 clear_above c [] h = refl
 clear_above c (p ∷ ps) h =
-    clear_by c (p ∷ ps) {g = Kept f1} (rw h.0.higher)
+    clear_by c (p ∷ ps) {g = Some f1} (rw h.0.higher)
     (clear_side c f1 (p ∷ ps)
     (each_map (λ q k. record { off = above_off c.tol (away c q) k.higher; within = k.within }) (p ∷ ps) h))
 
@@ -124,7 +123,7 @@ clear_below : (c : Cut) (ps : List Vector) → Each (ClearBelow c) ps → plane_
 unfolding plane_section_segments any_below
 clear_below c [] h = refl
 clear_below c (p ∷ ps) h =
-    clear_by c (p ∷ ps) {g = Kept minus_one} (rw (none_above c (p ∷ ps) h, h.0.lower))
+    clear_by c (p ∷ ps) {g = Some minus_one} (rw (none_above c (p ∷ ps) h, h.0.lower))
     (clear_side c minus_one (p ∷ ps)
     (each_map (λ q k. record { off = below_off c.tol (away c q) k.lower; within = k.within }) (p ∷ ps) h))
 

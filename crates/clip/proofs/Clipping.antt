@@ -4,7 +4,7 @@ use mathlib.Core.List.{List, [], ◌∷◌, ◌++◌}
 use mathlib.Core.Bool.{true, false, cond}
 use Prim.Native.Nat.{ℕ, suc, ◌+◌, ◌-◌, ◌*◌, ◌≤◌, ◌<◌}
 use mathlib.Core.Logic.{◌⊎◌, inl, inr}
-use native.Mathlib.Nat.{mul-le-mul_left}
+use native.Mathlib.Nat.{mul-add, mul-le-mul_left, mul-le-mul_right}
 use native.Mathlib.Numerals.{add-one}
 use native.Mathlib.Omega.{arith}
 use lib.Dec.{ltb}
@@ -105,6 +105,15 @@ pub record PolygonClipping (w : ℕ) (c : Cut) (s tol2 : Float) (n : ℕ) (ps xs
   pub corner : i < n → a ≡ row w ps i
   pub its_distance : da ≡ signed c s a
   pub few : 2 * m + outside_at c s a ≤ 3 * i + 1
+
+-- the distances that are still to be read lie beyond the points that are written
+pub unread : (w m : ℕ) {n i l : ℕ} → 0 < w → i < n → 2 * m ≤ 3 * i + 1 → w * at_most n ≤ l → w * m ≤ l - n + (i + 1)
+unread w m {n} {i} {l} p h few room =
+    let a : m + (n - i) ≤ at_most n = omega arith in
+    let e = mul-le-mul_left w a in
+    let s = mul-add w m (n - i) in
+    let r = mul-le-mul_right (n - i) p in
+    omega arith
 
 -- the distances stand at the end of xs: the first, and the one that follows the edge i, which no point has been written over
 pub first_distance : (c : Cut) (w n : ℕ) (ps xs : List Float) (s : Float) → Distances c w n ps xs → 0 < n

@@ -7,7 +7,7 @@ use native.Mathlib.Omega.{arith}
 use lib.Ieee.{Float}
 use lib.ListN.{length, get_or, take, drop, length-append, length-drop, length-map, drop_of_length-le}
 use lib.Seq.{drop-cons, take_all}
-use Rattle.vector.specs.Vector.{Frame}
+use Rattle.vector.specs.declared.Plane.{Plane}
 use Rattle.vector.specs.Rows.{rows, segs}
 use Rattle.vector.proofs.Rows.{drop_later, rows_length, segs_length}
 use Rattle.clip.specs.Clip.{Cut, plane_section_segments}
@@ -16,14 +16,14 @@ use Rattle.clip.specs.Code.{Fit, Segments}
 use Rattle.clip.proofs.Bound.{section_bound}
 
 -- i of the faces are passed, s corners and k segments; m corners there are in all, and room for p and q numbers a face
-pub record Gathering (c : Cut) (f : Frame) (w m p q : ℕ) (es : List ℕ) (ps xs : List Float) (i s k : ℕ) (zs : List Float) : Type 0 where
+pub record Gathering (c : Cut) (f : Plane) (w m p q : ℕ) (es : List ℕ) (ps xs : List Float) (i s k : ℕ) (zs : List Float) : Type 0 where
   pub total : cell_segments c f (faces_from w 0 es ps) ≡ segs 2 k zs ++ cell_segments c f (faces_from w s (drop i es) ps)
   pub rest : drop (2 * (2 * k)) zs ≡ drop (2 * (2 * k)) xs
   pub same_length : length zs ≡ length xs
   pub few : k ≤ at_most s
   pub fit : Fit s (drop i es) m p q
 
-pub gathering_start : (c : Cut) (f : Frame) (w m p q : ℕ) (es : List ℕ) (ps xs : List Float) → Fit 0 es m p q
+pub gathering_start : (c : Cut) (f : Plane) (w m p q : ℕ) (es : List ℕ) (ps xs : List Float) → Fit 0 es m p q
     → Gathering c f w m p q es ps xs 0 0 0 xs
 gathering_start c f w m p q es ps xs h = record { total = refl; rest = refl; same_length = refl; few = omega arith; fit = h }
 
@@ -31,7 +31,7 @@ fit_most : (s : ℕ) (es : List ℕ) (m p q : ℕ) → Fit s es m p q → s ≤ 
 fit_most s [] m p q h = h
 fit_most s (e ∷ es) m p q h = omega (arith, h.0, fit_most e es m p q h.3)
 
-module _ {c : Cut} {f : Frame} {w m p q : ℕ} {es : List ℕ} {ps xs : List Float} {i s k : ℕ} {zs : List Float}
+module _ {c : Cut} {f : Plane} {w m p q : ℕ} {es : List ℕ} {ps xs : List Float} {i s k : ℕ} {zs : List Float}
     (v : Gathering c f w m p q es ps xs i s k zs) (h : i < length es) where
   next : drop i es ≡ get_or es i 0 ∷ drop (i + 1) es
   next = rw (add-one, drop-cons es i 0 h)
@@ -77,7 +77,7 @@ module _ {c : Cut} {f : Frame} {w m p q : ℕ} {es : List ℕ} {ps xs : List Flo
         fit = fits.3;
       }
 
-pub gathering_end : {c : Cut} {f : Frame} {w m p q : ℕ} {es : List ℕ} {ps xs : List Float} {i s k : ℕ} {zs : List Float}
+pub gathering_end : {c : Cut} {f : Plane} {w m p q : ℕ} {es : List ℕ} {ps xs : List Float} {i s k : ℕ} {zs : List Float}
     → Gathering c f w m p q es ps xs i s k zs → length es ≤ i → Segments 2 xs (cell_segments c f (faces_from w 0 es ps)) k zs
 gathering_end {c} {f} {w} {m} {p} {q} {es} {ps} {xs} {i} {s} {k} {zs} v h =
     record { are = sym (v.total ∙ rw (drop_of_length-le es {i = i} h) (append-nil (segs 2 k zs))); rest = v.rest }

@@ -1,4 +1,5 @@
 -- The side that is kept, by how many corners are above tol and below -tol, as the loop over the corners counts them. Assumes nothing.
+use Rattle.std.specs.Prelude.{Option, Some, None}
 use mathlib.Core.Path.{◌≡◌, refl, ap, sym, ◌∙◌}
 use mathlib.Core.List.{List, [], ◌∷◌}
 use mathlib.Core.Bool.{Bool, true, false, cond, ◌&&◌, ◌||◌}
@@ -9,6 +10,7 @@ use native.Mathlib.Numerals.{add-one}
 use native.Mathlib.Omega.{arith}
 use borrow.Author.Tests.{eqb-true, lt-ltb}
 use lib.Dec.{eqb, ltb}
+use mir.Val.{bool_byte as from_bool}
 use lib.Ieee.{Float, nan, lt, le, neg}
 use lib.ListN.{length, get_or, drop, set, drop_of_length-le, length-set}
 use lib.Seq.{drop-cons, get_or-set_other, get_or-set_same}
@@ -16,11 +18,17 @@ use Rattle.vector.specs.Number.{f0, f1, minus_one}
 use Rattle.vector.specs.Vector.{Vector}
 use Rattle.vector.specs.Rows.{row, rows}
 use Rattle.vector.proofs.Rows.{rows_get_d, rows_length}
-use Rattle.clip.specs.declared.Side.{Side}
-use Rattle.clip.specs.declared.Side.TheVariants.{Kept, Neither}
 use Rattle.clip.specs.Clip.{Cut, any_above, any_below, away, kept_side}
 use Rattle.clip.specs.Clear.{Each}
 use Rattle.clip.specs.Code.{PassedOver, Sided, side_of}
+
+-- ---- one more if a test holds
+pub counted : (k : ℕ) (b : Bool) {r : ℕ} → r ≡ from_bool b → k + r ≡ k + cond b 1 0
+counted k b {r} e = ap (λ n. k + n) (e ∙ by_test b)
+  where
+    by_test : (t : Bool) → from_bool t ≡ cond t 1 0
+    by_test true = refl
+    by_test false = refl
 
 -- ---- how many points pass a test
 abbrev pub tally : (Vector → Bool) → List Vector → ℕ
@@ -66,18 +74,18 @@ any_below_lem c [] = refl
 any_below_lem c (p ∷ ps) = ap (λ (b : Bool). lower c p || b) (any_below_lem c ps) ∙ tally_some (lower c p) (tally (lower c) ps)
 
 -- ---- the side by the tallies
-by_tally : (c : Cut) (ps : List Vector) → cond (ltb 0 (tally (higher c) ps)) (Kept f1) (cond (ltb 0 (tally (lower c) ps)) (Kept minus_one) Neither) ≡ kept_side c ps
+by_tally : (c : Cut) (ps : List Vector) → cond (ltb 0 (tally (higher c) ps)) (Some f1) (cond (ltb 0 (tally (lower c) ps)) (Some minus_one) None) ≡ kept_side c ps
 by_tally c ps = rw (any_above_lem c ps, any_below_lem c ps)
 
 side_by_tally : (c : Cut) (ps : List Vector)
     → let g = side_of (tally (higher c) ps) (tally (lower c) ps) (length ps) c.tol in
-    (g ≡ kept_side c ps) ⊎ ((g ≡ Neither) × PassedOver c ps)
+    (g ≡ kept_side c ps) ⊎ ((g ≡ None) × PassedOver c ps)
 side_by_tally c ps =
     by_test (le f0 c.tol) (eqb (tally (higher c) ps) (length ps)) (eqb (tally (lower c) ps) (length ps)) refl refl refl
   where
     by_test : (x y z : Bool) → le f0 c.tol ≡ x → eqb (tally (higher c) ps) (length ps) ≡ y → eqb (tally (lower c) ps) (length ps) ≡ z
-        → let g = cond (x && (y || z)) Neither (cond (ltb 0 (tally (higher c) ps)) (Kept f1) (cond (ltb 0 (tally (lower c) ps)) (Kept minus_one) Neither)) in
-        (g ≡ kept_side c ps) ⊎ ((g ≡ Neither) × PassedOver c ps)
+        → let g = cond (x && (y || z)) None (cond (ltb 0 (tally (higher c) ps)) (Some f1) (cond (ltb 0 (tally (lower c) ps)) (Some minus_one) None)) in
+        (g ≡ kept_side c ps) ⊎ ((g ≡ None) × PassedOver c ps)
     by_test true true z ex ey ez =
         inr (refl, record { not_negative = ex; beyond = inl (tally_each (higher c) ps (eqb-true (tally (higher c) ps) (length ps) ey)) })
     by_test true false true ex ey ez =
@@ -86,11 +94,11 @@ side_by_tally c ps =
     by_test false y z ex ey ez = inl (by_tally c ps)
 
 -- Whatever is read from a side: where a face that is passed over gives what neither side does, the side g gives what the kept one does.
-module _ {A : Type 0} (f : Side → A) {c : Cut} {w n : ℕ} {ps : List Float} {g : Side} {xs : List Float} (v : Sided c w n ps g xs) where
-  pub from_side : (PassedOver c (rows w n ps) → f (kept_side c (rows w n ps)) ≡ f Neither) → f (kept_side c (rows w n ps)) ≡ f g
+module _ {A : Type 0} (f : Option Float → A) {c : Cut} {w n : ℕ} {ps : List Float} {g : Option Float} {xs : List Float} (v : Sided c w n ps g xs) where
+  pub from_side : (PassedOver c (rows w n ps) → f (kept_side c (rows w n ps)) ≡ f None) → f (kept_side c (rows w n ps)) ≡ f g
   from_side none = by_side' v.side
     where
-      by_side' : (g ≡ kept_side c (rows w n ps)) ⊎ ((g ≡ Neither) × PassedOver c (rows w n ps)) → f (kept_side c (rows w n ps)) ≡ f g
+      by_side' : (g ≡ kept_side c (rows w n ps)) ⊎ ((g ≡ None) × PassedOver c (rows w n ps)) → f (kept_side c (rows w n ps)) ≡ f g
       by_side' (inl e) = ap f (sym e)
       by_side' (inr o) = none o.1 ∙ ap f (sym o.0)
 
@@ -151,7 +159,7 @@ module _ {w n : ℕ} {ps : List Float} {c : Cut} {xs : List Float} {i above belo
         within = omega arith;
       }
 
-pub looking_end : {w n : ℕ} {ps : List Float} {c : Cut} {xs : List Float} {i above below : ℕ} {zs : List Float} {g : Side}
+pub looking_end : {w n : ℕ} {ps : List Float} {c : Cut} {xs : List Float} {i above below : ℕ} {zs : List Float} {g : Option Float}
     → Looking w n ps c xs i above below zs → n ≤ i → g ≡ side_of above below n c.tol → Sided c w n ps g zs
 looking_end {w} {n} {ps} {c} {xs} {i} {above} {below} {zs} v h eg =
     let none : drop i (rows w n ps) ≡ [] = drop_of_length-le (rows w n ps) {i = i} (omega (arith, rows_length w n ps)) in

@@ -1,4 +1,5 @@
 -- The section put together: few corners or points, either side, and neither. Assumes nothing.
+use Rattle.std.specs.Prelude.{Option}
 use mathlib.Core.Path.{◌≡◌, refl, ap, sym, ◌∙◌}
 use mathlib.Core.List.{List, []}
 use mathlib.Core.Logic.{◌⊎◌, inl, inr}
@@ -11,7 +12,6 @@ use borrow.Author.Tests.{lt-ltb, le-ltb}
 use Rattle.vector.specs.Number.{f0}
 use Rattle.vector.specs.Rows.{Seg, rows}
 use Rattle.vector.proofs.Rows.{rows_length, segs_length}
-use Rattle.clip.specs.declared.Side.{Side}
 use Rattle.clip.specs.Clip.{Cut, by_side, clipped, edges, kept_side, plane_section_segments, push_segments, section_on, tol_squared, without_closing}
 use Rattle.clip.specs.Clear.{Each, Higher, Lower}
 use Rattle.clip.specs.Cell.{at_most}
@@ -46,7 +46,7 @@ module _ (w : ℕ) (c : Cut) (n : ℕ) (ps : List Float) where
   few_corners h xs = no_segments w xs (rw (rows_length w n ps, lt-ltb n 3 h))
 
   -- three corners or more: the section is that of the side; a face that is passed over has none
-  of_side : {g : Side} {qs : List Float} → 3 ≤ n → Sided c w n ps g qs → plane_section_segments c (rows w n ps) ≡ by_side c (rows w n ps) g
+  of_side : {g : Option Float} {qs : List Float} → 3 ≤ n → Sided c w n ps g qs → plane_section_segments c (rows w n ps) ≡ by_side c (rows w n ps) g
   unfolding plane_section_segments
   of_side {g} {qs} l h = many ∙ from_side (by_side c (rows w n ps)) h (λ o. sym many ∙ none o.not_negative o.beyond)
     where
@@ -57,7 +57,7 @@ module _ (w : ℕ) (c : Cut) (n : ℕ) (ps : List Float) where
       none t (inl a) = (left_out c (rows w n ps)).above t a
       none t (inr b) = (left_out c (rows w n ps)).below t b
 
-  pub on_side : {g : Side} {qs : List Float} → 3 ≤ n → Sided c w n ps g qs → {xs : List Float} {r : ℕ} {zs : List Float}
+  pub on_side : {g : Option Float} {qs : List Float} → 3 ≤ n → Sided c w n ps g qs → {xs : List Float} {r : ℕ} {zs : List Float}
       → Segments w xs (by_side c (rows w n ps) g) r zs → Segments w xs (plane_section_segments c (rows w n ps)) r zs
   on_side l h = segments_as (of_side l h)
 

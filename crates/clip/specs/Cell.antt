@@ -1,24 +1,25 @@
 -- The segments of a cell's faces in the coordinates of the cutting plane, and what docs/RULES.md says of their number.
 -- Definitions and statements only; the theorems are in proofs/Bound.antt.
 use Rattle.std.specs.Prelude.{List, [], ◌∷◌, ◌++◌, map, ℕ, ◌+◌, ◌-◌, ◌*◌, ◌/◌, ◌≤◌, length, drop, Float}
-use Rattle.vector.specs.Vector.{Vector, Frame, project}
+use Rattle.vector.specs.Vector.{Vector, project}
+use Rattle.vector.specs.declared.Plane.{Plane}
 use Rattle.vector.specs.Rows.{Seg, seg, rows}
 use Rattle.clip.specs.Clip.{Cut, clipped, plane_section_segments}
 
 -- the cut by a plane, with a tolerance
-abbrev pub cut_by : Frame → Float → Cut
+abbrev pub cut_by : Plane → Float → Cut
 cut_by f tol = record { origin = f.origin; normal = f.normal; tol = tol }
 
 -- a segment in the plane's own coordinates
-abbrev pub project_seg : Frame → Seg → Seg
+abbrev pub project_seg : Plane → Seg → Seg
 project_seg f (seg a b) = seg (project f a) (project f b)
 
 -- the segments of one face, projected
-abbrev pub face_segments : Cut → Frame → List Vector → List Seg
+abbrev pub face_segments : Cut → Plane → List Vector → List Seg
 face_segments c f ps = map (project_seg f) (plane_section_segments c ps)
 
 -- the segments of a cell: those of its faces, in their order
-abbrev pub cell_segments : Cut → Frame → List (List Vector) → List Seg
+abbrev pub cell_segments : Cut → Plane → List (List Vector) → List Seg
 cell_segments c f [] = []
 cell_segments c f (ps ∷ fs) = face_segments c f ps ++ cell_segments c f fs
 
@@ -39,7 +40,7 @@ corners [] = 0
 corners (ps ∷ fs) = length ps + corners fs
 
 -- Faces of m corners in all give at most floor(3m / 2) segments.
-abbrev pub CellBound : Cut → Frame → List (List Vector) → Type 0
+abbrev pub CellBound : Cut → Plane → List (List Vector) → Type 0
 CellBound c f fs = length (cell_segments c f fs) ≤ at_most (corners fs)
 
 -- ---- the corners that a buffer holds

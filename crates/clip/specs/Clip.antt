@@ -1,13 +1,11 @@
 -- The section of a polygon by a plane in space or a line in the plane, over points of any width: "The segments of a polygon" of docs/RULES.md.
 -- Definitions only. What docs/RULES.md says of the number of points and segments is in Cell.antt.
-use Rattle.std.specs.Prelude.{List, [], ◌∷◌, ◌++◌, Bool, true, false, not, ◌&&◌, ◌||◌, cond, ◌-◌, eqb, ltb, length, get_or, take, Float}
+use Rattle.std.specs.Prelude.{List, [], ◌∷◌, ◌++◌, Bool, true, false, not, ◌&&◌, ◌||◌, cond, ◌-◌, eqb, ltb, length, get_or, take, Float, Option, Some, None}
 use Rattle.std.specs.Float.{binary64}
 use Rattle.std.specs.Float.Ieee.{add, sub, mul, div, neg, lt, le}
 use Rattle.vector.specs.Number.{f1, minus_one, half, least, abs}
 use Rattle.vector.specs.Vector.{Vector, diff, dist2, distance, dot_from, plus, scale}
 use Rattle.vector.specs.Rows.{Seg, seg}
-use Rattle.clip.specs.declared.Side.{Side}
-use Rattle.clip.specs.declared.Side.TheVariants.{Kept, Neither}
 
 -- the plane or line that cuts, by a point of it and its unit normal, and the tolerance of the tests
 pub record Cut : Type 0 where
@@ -38,8 +36,8 @@ any_below c [] = false
 any_below c (p ∷ ps) = lt (away c p) (neg c.tol) || any_below c ps
 
 -- above, with the sign 1, if some corner is, else below, with the sign -1, if some corner is; neither: no section
-abbrev pub kept_side : Cut → List Vector → Side
-kept_side c ps = cond (any_above c ps) (Kept f1) (cond (any_below c ps) (Kept minus_one) Neither)
+abbrev pub kept_side : Cut → List Vector → Option Float
+kept_side c ps = cond (any_above c ps) (Some f1) (cond (any_below c ps) (Some minus_one) None)
 
 -- the distance times the sign, 1 or -1, so that the kept side is above
 abbrev pub signed : Cut → Float → Vector → Float
@@ -164,9 +162,9 @@ abbrev pub section_on : Cut → Float → List Vector → List Seg
 section_on c s ps = segments c (without_closing (tol_squared c) (clipped c s ps))
 
 -- on the side that is kept
-abbrev pub by_side : Cut → List Vector → Side → List Seg
-by_side c ps (Kept s) = section_on c s ps
-by_side c ps Neither = []
+abbrev pub by_side : Cut → List Vector → Option Float → List Seg
+by_side c ps (Some s) = section_on c s ps
+by_side c ps None = []
 
 -- the section of a polygon: under three corners, none
 unfoldable pub plane_section_segments : Cut → List Vector → List Seg

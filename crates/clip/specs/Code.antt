@@ -1,14 +1,13 @@
 -- What the clauses of the code say of slices and indices. Definitions only.
-use Rattle.std.specs.Prelude.{◌≡◌, List, [], ◌∷◌, true, cond, ◌&&◌, ◌||◌, ◌⊎◌, ℕ, ◌+◌, ◌-◌, ◌*◌, ◌≤◌, ◌<◌, eqb, ltb, Float, length, get_or, drop}
+use Rattle.std.specs.Prelude.{◌≡◌, List, [], ◌∷◌, true, cond, ◌&&◌, ◌||◌, ◌⊎◌, ℕ, ◌+◌, ◌-◌, ◌*◌, ◌≤◌, ◌<◌, eqb, ltb, Float, length, get_or, drop, Option, Some, None}
 use Rattle.std.specs.Float.{nan}
 use Rattle.std.specs.Float.Ieee.{le}
 use Rattle.vector.specs.Number.{f0, f1, minus_one}
-use Rattle.vector.specs.Vector.{Vector, Frame}
+use Rattle.vector.specs.Vector.{Vector}
+use Rattle.vector.specs.declared.Plane.{Plane}
 use Rattle.vector.specs.Rows.{Seg, row, rows, segs}
 use Rattle.clip.specs.declared.Clipped.{Clipped}
 use Rattle.clip.specs.declared.Found.{Found}
-use Rattle.clip.specs.declared.Side.{Side}
-use Rattle.clip.specs.declared.Side.TheVariants.{Kept, Neither}
 use Rattle.clip.specs.Clip.{Cut, away, clip_edge, clip_sides, edges, kept_side, plane_intersection, plane_section_segments, push_all, section_on}
 use Rattle.clip.specs.Cell.{at_most, cell_segments}
 use Rattle.clip.specs.Clear.{Each, Higher, Lower}
@@ -49,7 +48,7 @@ pub record FaceCut (w : ℕ) (c : Cut) (ps : List Vector) (xs : List Float) (r :
   pub segments : Segments w xs (plane_section_segments c ps) r.segments zs
 
 -- A cell with the faces fs was cut, and its segments in the plane's own coordinates are in the buffer xs, which has become zs.
-pub record CellCut (c : Cut) (f : Frame) (fs : List (List Vector)) (xs : List Float) (r : Found) (zs : List Float) : Type 0 where
+pub record CellCut (c : Cut) (f : Plane) (fs : List (List Vector)) (xs : List Float) (r : Found) (zs : List Float) : Type 0 where
   pub segments : Segments 2 xs (cell_segments c f fs) r.segments zs
 
 -- the last n numbers of xs are the distances of the first n points of ps, w numbers each
@@ -63,14 +62,14 @@ pub record PassedOver (c : Cut) (ps : List Vector) : Type 0 where
 
 -- The side g is the one that is kept of the polygon of the first n points of ps, or neither where the face is passed over; and xs ends
 -- with the distances of the points.
-pub record Sided (c : Cut) (w n : ℕ) (ps : List Float) (g : Side) (xs : List Float) : Type 0 where
-  pub side : (g ≡ kept_side c (rows w n ps)) ⊎ ((g ≡ Neither) × PassedOver c (rows w n ps))
+pub record Sided (c : Cut) (w n : ℕ) (ps : List Float) (g : Option Float) (xs : List Float) : Type 0 where
+  pub side : (g ≡ kept_side c (rows w n ps)) ⊎ ((g ≡ None) × PassedOver c (rows w n ps))
   pub distances : Distances c w n ps xs
 
 -- the side to clip to, if so many of n corners are above tol and below -tol: neither, if all are and tol is not negative
-abbrev pub side_of : ℕ → ℕ → ℕ → Float → Side
+abbrev pub side_of : ℕ → ℕ → ℕ → Float → Option Float
 side_of above below n tol =
-    cond (le f0 tol && (eqb above n || eqb below n)) Neither (cond (ltb 0 above) (Kept f1) (cond (ltb 0 below) (Kept minus_one) Neither))
+    cond (le f0 tol && (eqb above n || eqb below n)) None (cond (ltb 0 above) (Some f1) (cond (ltb 0 below) (Some minus_one) None))
 
 -- The faces whose ends are running totals from s on: no end is below the one before it, or above m, and each face has room for
 -- its clipped points in p numbers and for its segments in space in q numbers.

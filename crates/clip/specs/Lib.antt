@@ -2,3 +2,4 @@ pub mod Clip
 pub mod Cell
 pub mod Clear
 pub mod Code
+pub mod View

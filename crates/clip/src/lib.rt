@@ -1,15 +1,18 @@
-// The section of a polygon by a plane in space or by a line in the plane: what both widths share. The polygons themselves are cut in
-// clip_space and clip_plane.
+// The section of a polygon by a plane in space or by a line in the plane, and the segments of a cell in space, face by face.
 #![tactic(auto)]
 
-ghost use Rattle.std.specs.Prelude.{◌≡◌, ◌&&◌, ◌||◌, cond, ◌+◌, ◌<◌, ◌≤◌, eqb, ltb, get_or, length};
+ghost use Rattle.std.specs.Prelude.{◌≡◌, ◌++◌, map, cond, ◌+◌, ◌*◌, ◌<◌, ◌≤◌, get_or, length, ltb};
 ghost use Rattle.std.specs.Float.{binary64, nan};
-ghost use Rattle.std.specs.Float.Ieee.{le, mul};
-ghost use Rattle.vector.specs.Number.{f0};
+ghost use Rattle.std.specs.Float.Ieee.{mul};
+ghost use Rattle.vector.specs.Rows.{segs};
+ghost use Rattle.clip.specs.Cell.{at_most, cut_by, faces_of, project_seg};
 ghost use Rattle.clip.specs.Clip.{ratio};
-ghost use Rattle.clip.specs.Code.{next_of, side_of};
+ghost use Rattle.clip.specs.Code.{CellCut, Fit, Segments, next_of, side_of};
 
-use vector::absolute;
+pub mod polygon;
+
+use polygon::{Cut, plane_section_segments};
+use vector::{Plane, absolute, coord, put};
 
 // How many segments were written.
 #[derive(Clone, Copy)]
@@ -23,96 +26,94 @@ pub struct Clipped {
     pub points: usize,
 }
 
-// The side of the cut that a polygon is clipped to, by the sign that makes its distances positive: 1 above, -1 below.
-// Neither, if no corner is above tol or below -tol, or if all are on one side.
-#[derive(Clone, Copy)]
-pub enum Side {
-    Kept(f64),
-    Neither,
+// A cell of m corners in all, which stand in coords face by face; ends are running totals. Its segments, in the
+// plane's own coordinates, written to out. The scratch `points` and `space` has room for one face at a time, and what
+// it holds afterwards is not said.
+pub fn cell_segments(
+    coords: &[f64],
+    ends: &[usize],
+    m: usize,
+    plane: Plane,
+    tol: f64,
+    points: &mut [f64],
+    space: &mut [f64],
+    out: &mut [f64],
+) -> Found
+    requires { Fit 0 ends.now m (length points.old) (length space.old) × (3 * m ≤ length coords.now)
+        × (4 * at_most m ≤ length out.old) }
+    ensures { CellCut (cut_by plane tol) plane (faces_of 3 ends.now coords.now) out.old result
+        out.new }
+{
+    let origin = plane.origin;
+    let normal = plane.normal;
+    let cut = Cut {
+        origin,
+        normal,
+        tol,
+    };
+    let mut k = 0;
+    let mut s = 0;
+    for &e in ends {
+        let at = 3 * s;
+        let found = plane_section_segments(&coords[at..], e - s, &cut, points, space);
+        k = project_segments(space, found.segments, plane, out, k);
+        s = e;
+    }
+    Found { segments: k }
 }
 
-// The least normal number, 2^-1022.
-const MIN_POSITIVE: f64 = 2.2250738585072014e-308;
+// Projects k segments into the plane, after the `from` in out. Gives how many there are then.
+fn project_segments(space: &[f64], k: usize, plane: Plane, out: &mut [f64], from: usize) -> usize
+    requires { (6 * k ≤ length space.now) × (4 * (from + k) ≤ length out.old) }
+    ensures { Segments 2 out.old (segs 2 from out.old ++ map (project_seg plane) (segs 3 k space.now))
+        result out.new }
+{
+    for i in 0..k {
+        let j = 2 * (from + i);
+        put(out, j, plane.project(coord(space, 2 * i)));
+        put(out, j + 1, plane.project(coord(space, 2 * i + 1)));
+    }
+    from + k
+}
 
 // Where an edge meets the cut, from 0 at its first end to 1, by the signed distances of its ends.
-pub fn ratio(da: f64, db: f64) -> f64
+fn ratio(da: f64, db: f64) -> f64
     ensures { result ≡ ratio da db }
 {
     let denom = da - db;
-    if absolute(denom) > MIN_POSITIVE {
+    if absolute(denom) > f64::MIN_POSITIVE {
         return da / denom;
     }
     0.5
 }
 
-// Whether x and y are at most t.
-pub fn both_at_most(x: f64, y: f64, t: f64) -> bool
-    ensures { result ≡ le x t && le y t }
-{
-    if x <= t {
-        return y <= t;
-    }
-    false
-}
-
-// k, and one more if the test holds.
-pub fn count_if(k: usize, test: bool) -> usize
-    requires { k + 1 ≤ 18446744073709551615 }
-    ensures { result ≡ k + cond test 1 0 }
-{
-    if test {
-        return k + 1;
-    }
-    k
-}
-
-// The side to clip to, if so many of n corners are above tol and below -tol: none if they all are, since the face
-// is then clear of the cut.
-pub fn side_of(above: usize, below: usize, n: usize, tol: f64) -> Side
+// The side of the cut that a polygon is clipped to, by the sign that makes its distances positive, if so many of n corners are above
+// tol and below -tol: 1 above, -1 below. None, if none is, or if all are on one side, since the face is then clear of the cut.
+fn side_of(above: usize, below: usize, n: usize, tol: f64) -> Option<f64>
     ensures { result ≡ side_of above below n tol }
 {
-    if is_clear(above, below, n, tol) {
-        return Side::Neither;
+    if tol >= 0.0 && (above == n || below == n) {
+        None
+    } else if above > 0 {
+        Some(1.0)
+    } else if below > 0 {
+        Some(-1.0)
+    } else {
+        None
     }
-    if above > 0 {
-        return Side::Kept(1.0);
-    }
-    if below > 0 {
-        return Side::Kept(-1.0);
-    }
-    Side::Neither
-}
-
-// Whether all of n corners are above tol, or all below -tol, and tol is not negative.
-fn is_clear(above: usize, below: usize, n: usize, tol: f64) -> bool
-    ensures { result ≡ le f0 tol && (eqb above n || eqb below n) }
-{
-    if tol >= 0.0 {
-        if above == n {
-            return true;
-        }
-        return below == n;
-    }
-    false
 }
 
 // The signed distance at a place of xs, or after its end that of the first corner.
-pub fn signed_at(xs: &[f64], at: usize, sign: f64, first: f64) -> f64
+fn signed_at(xs: &[f64], at: usize, sign: f64, first: f64) -> f64
     ensures { result ≡ cond (ltb at (length xs.now)) (mul binary64 sign (get_or xs.now at nan)) first }
 {
-    if at < xs.len() {
-        return sign * xs[at];
-    }
-    first
+    if at < xs.len() { sign * xs[at] } else { first }
 }
 
 // The place after i in a ring of n.
-pub fn next_of(i: usize, n: usize) -> usize
+fn next_of(i: usize, n: usize) -> usize
     requires { i < n }
     ensures { result ≡ next_of i n }
 {
-    if i + 1 < n {
-        return i + 1;
-    }
-    0
+    if i + 1 < n { i + 1 } else { 0 }
 }

@@ -3,7 +3,7 @@
 use mathlib.Core.Path.{◌≡◌, refl, ap, sym, ◌∙◌}
 use mathlib.Core.List.{List, [], ◌∷◌, ◌++◌, append_assoc}
 use Prim.Native.Nat.{ℕ, zero, suc, ◌+◌, ◌-◌, ◌*◌, ◌≤◌, ◌<◌}
-use native.Mathlib.Nat.{not-suc-le-zero, mul-suc, mul-zero, suc-add, zero-add, add_comm}
+use native.Mathlib.Nat.{not-suc-le-zero, mul-le-mul_left, mul-le-mul_right, mul-suc, mul-zero, suc-add, zero-add, add_comm}
 use native.Mathlib.Numerals.{add-one}
 use native.Mathlib.Omega.{arith}
 use lib.Ieee.{Float, nan}
@@ -60,6 +60,20 @@ pub drop_later : (zs ys : List Float) (a b : ℕ) → a ≤ b → drop a zs ≡ 
 drop_later zs ys a b h e =
     let q : b ≡ a + (b - a) = omega arith in
     rw q (sym (drop-drop (b - a) a zs) ∙ rw e (drop-drop (b - a) a ys))
+
+-- ---- room
+
+-- row i is inside n rows
+pub row_fits : (w n : ℕ) {i l : ℕ} → i < n → w * n ≤ l → w * i + w ≤ l
+row_fits w n {i} {l} h room = let e = mul-le-mul_left w h in let f = mul-suc w i in omega arith
+
+-- rows have as many numbers at least
+pub rows_fit : (w n : ℕ) {l : ℕ} → 0 < w → w * n ≤ l → n ≤ l
+rows_fit w n {l} h room = let e = mul-le-mul_right n h in omega arith
+
+-- fewer rows have room too
+pub rows_room : (w : ℕ) {m n l : ℕ} → m ≤ n → w * n ≤ l → w * m ≤ l
+rows_room w h room = let e = mul-le-mul_left w h in omega arith
 
 -- ---- a row written after n others
 module _ (w n : ℕ) (xs : List Float) (p : Vector) (wide : length p ≡ w) (room : w * suc n ≤ length xs) where

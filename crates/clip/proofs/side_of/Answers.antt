@@ -1,23 +1,22 @@
 -- `clip::side_of` meets its contract. Assumes nothing.
-use mathlib.Core.Path.{refl}
-use lib.Ieee.{neg, of_bits}
-use borrow.Author.Tests.{le-ltb, lt-ltb}
+use lib.Ieee.{of_bits, neg, le}
+use Rattle.std.proofs.Common.{◌≡◌, ◌&&◌, ◌||◌, false, eqb}
+use borrow.Author.Tests.{lt-ltb, le-ltb, ne_eqb}
+use Rattle.vector.specs.Number.{f0}
 use Rattle.clip.proofs.side_of.Goals as goal
+use Rattle.clip.proofs.side_of.Goals.{Joined-else-tol, else-tol-via-then-tol+else-below-n, else-tol-via-else-tol}
 
-pub returns-then-is_clear : goal.returns-then-is_clear
-returns-then-is_clear c = rw (← c.is_clear.ensures, c.if-is_clear.true)
-
-pub returns-then-above-gt0 : goal.returns-then-above-gt0
+-- the face is not clear
+not_clear : (c : Joined-else-tol) → (le f0 c.args.tol && (eqb c.args.above c.args.n || eqb c.args.below c.args.n)) ≡ false
 unfolding of_bits
-returns-then-above-gt0 c = rw (← c.is_clear.ensures, c.if-is_clear.false, lt-ltb 0 c.args.above c.if-above-gt0.true) refl
+not_clear c =
+    elim c.else-tol.branch [
+      | else-tol-via-then-tol+else-below-n w ↦
+          simp (w.if-tol.true, ne_eqb c.args.above c.args.n w.if-below-n.false.0, ne_eqb c.args.below c.args.n w.if-below-n.false.1)
+      | else-tol-via-else-tol w ↦ simp (w.if-tol.false)
+    ]
 
 pub returns-then-below-gt0 : goal.returns-then-below-gt0
 unfolding of_bits neg
 returns-then-below-gt0 c =
-    let g = c.args in
-    rw (← c.is_clear.ensures, c.if-is_clear.false, le-ltb 0 g.above c.if-above-gt0.false, lt-ltb 0 g.below c.if-below-gt0.true) refl
-
-pub returns : goal.returns
-returns c =
-    let g = c.args in
-    rw (← c.is_clear.ensures, c.if-is_clear.false, le-ltb 0 g.above c.if-above-gt0.false, le-ltb 0 g.below c.if-below-gt0.false)
+    simp (not_clear (goal.at.returns-then-below-gt0 c).Joined-else-tol, le-ltb 0 c.args.above c.if-above-gt0.false, lt-ltb 0 c.args.below c.if-below-gt0.true)

@@ -1,0 +1,9 @@
+-- `clip::polygon::kept_side` meets its contract. Assumes nothing.
+-- The invariant: the corners passed are counted, and their distances written.
+use Rattle.clip.proofs.KeptSide.{Looking}
+use Rattle.clip.specs.View.{cut_of}
+use Rattle.clip.proofs.polygon.kept_side.Given as goal
+
+abbrev pub invariant-loop-i : goal.invariant-loop-i
+invariant-loop-i d l =
+    Looking d.row.D l.n l.polygon (cut_of l.cut) l.initial.points l.i l.above l.below l.points
