@@ -2,6 +2,6 @@ pub mod Lists
 pub mod Marks
 pub mod Junction
 pub mod Buffers
-pub mod Lasts
+pub mod Past
 pub mod Scan
 pub mod Walking
