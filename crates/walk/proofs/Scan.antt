@@ -10,7 +10,6 @@ use lib.ListN.{length, get_or, drop, length-drop}
 use lib.Seq.{drop-cons, get_or-drop}
 use Rattle.std.specs.Prelude.{Option, None, Some, IfSome, unwrap_or}
 use Rattle.vector.specs.Vector.{Vector, diff, norm}
-use Rattle.vector.specs.View.{vec2}
 use Rattle.weld.specs.declared.Edge.{Edge}
 use Rattle.walk.specs.declared.Arrival.{Arrival}
 use Rattle.walk.specs.declared.Best.{Best}
@@ -111,9 +110,9 @@ arrived_cosine : (ps : List Vector) (es : List Edge) (p c : ℕ) (a : Arrival) �
     → cosine_for a ps es k ≡ cosine_at ps es p c k
 arrived_cosine ps es p c a g k =
     let d = diff (point_at ps c) (point_at ps p) in
-    ap (λ (i : ℕ). cosine_to (vec2 a.incoming) a.norm (vec2 a.at) (point_at ps (other i (edge_at es k)))) g.node
-    ∙ ap (λ (v : Vector). cosine_to (vec2 a.incoming) a.norm v (point_at ps (other c (edge_at es k)))) g.place
-    ∙ ap (λ (x : Float). cosine_to (vec2 a.incoming) x (point_at ps c) (point_at ps (other c (edge_at es k)))) g.long
+    ap (λ (i : ℕ). cosine_to a.incoming a.norm a.at (point_at ps (other i (edge_at es k)))) g.node
+    ∙ ap (λ (v : Vector). cosine_to a.incoming a.norm v (point_at ps (other c (edge_at es k)))) g.place
+    ∙ ap (λ (x : Float). cosine_to a.incoming x (point_at ps c) (point_at ps (other c (edge_at es k)))) g.long
     ∙ ap (λ (v : Vector). cosine_to v (norm v) (point_at ps c) (point_at ps (other c (edge_at es k)))) g.step
 
 -- ---- the choice

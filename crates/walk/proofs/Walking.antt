@@ -19,7 +19,7 @@ use Rattle.walk.specs.Walk.{edge_at, other, next_edge, Walk, onward, rest, walk_
 use Rattle.walk.specs.Code.{unused, Went}
 use Rattle.walk.proofs.Marks.{unused_le, unused_set}
 use Rattle.walk.proofs.Junction.{Free, next_free}
-use Rattle.walk.proofs.Buffers.{end_below}
+use Rattle.walk.proofs.Ends.{end_below}
 
 -- of the walk w, n nodes are behind, in a buffer, and v remains
 pub record Along (w v : Walk) (n : ℕ) (buffer : List ℕ) : Type 0 where

@@ -2,7 +2,6 @@
 use Rattle.std.specs.Prelude.{◌≡◌, List, [], ◌∷◌, Bool, true, false, cond, Option, None, Some, IfSome, ℕ, suc, ◌+◌, ◌≤◌, ◌<◌, length, get_or, take, drop, Float}
 use Rattle.std.specs.Float.Ieee.{lt}
 use Rattle.vector.specs.Vector.{Vector, diff, norm}
-use Rattle.vector.specs.View.{vec2}
 use Rattle.weld.specs.declared.Edge.{Edge}
 use Rattle.walk.specs.declared.Arrival.{Arrival}
 use Rattle.walk.specs.declared.Best.{Best}
@@ -21,13 +20,13 @@ Below n ns = (k : ℕ) → k < length ns → get_or ns k 0 < n
 -- an arrival at the point c from the point p
 pub record Arrived (ps : List Vector) (p c : ℕ) (a : Arrival) : Type 0 where
   pub node : a.node ≡ c
-  pub place : vec2 a.at ≡ point_at ps c
-  pub step : vec2 a.incoming ≡ diff (point_at ps c) (point_at ps p)
-  pub long : a.norm ≡ norm (vec2 a.incoming)
+  pub place : a.at ≡ point_at ps c
+  pub step : a.incoming ≡ diff (point_at ps c) (point_at ps p)
+  pub long : a.norm ≡ norm a.incoming
 
 -- the cosine of edge k after an arrival
 abbrev pub cosine_for : Arrival → List Vector → List Edge → ℕ → Float
-cosine_for a ps es k = cosine_to (vec2 a.incoming) a.norm (vec2 a.at) (point_at ps (other a.node (edge_at es k)))
+cosine_for a ps es k = cosine_to a.incoming a.norm a.at (point_at ps (other a.node (edge_at es k)))
 
 -- the better of the best so far and edge k with the cosine v
 abbrev pub better : Best → ℕ → Float → Best

@@ -3,13 +3,11 @@
 
 ghost use Rattle.std.specs.Prelude.{◌≡◌, false, not, true, ◌&&◌, ◌||◌, ◌*◌, ◌+◌, ◌<◌, ◌≤◌, eqb, get_or, length, replicate};
 ghost use Rattle.vector.specs.Rows.{rows};
-ghost use Rattle.vector.specs.View.{vec2};
 ghost use Rattle.weld.specs.Weld.{Within};
 ghost use Rattle.walk.specs.Walk.{clamp, cosine_to, next_edge, point_at, straightest, touches, walk_from};
 ghost use Rattle.walk.specs.Code.{Arrived, FirstFrom, NoneFrom, Went};
 ghost use Rattle.walk.specs.Code.{ahead, better, cosine_for};
 
-use vector::Vec2;
 use weld::Edge;
 
 // n points, the edges between them, and for each point a number from which on no edge ends there.
@@ -34,11 +32,11 @@ pub struct Walked {
 
 impl Graph<'_> {
     // The point number a.
-    pub fn point(&self, a: u32) -> Vec2
+    pub fn point(&self, a: u32) -> [f64; 2]
         requires { a < self.now.n }
-        ensures { vec2 result ≡ point_at (rows 2 self.now.n self.now.points.now) a }
+        ensures { result ≡ point_at (rows 2 self.now.n self.now.points.now) a }
     {
-        vector::coord2(self.points, a as usize)
+        vector::coord(self.points, a as usize)
     }
 
     // Walks from the edge start_edge, at its smaller point, along unused edges, until it is back or no
@@ -109,8 +107,8 @@ impl Graph<'_> {
         ensures { Arrived (rows 2 self.now.n self.now.points.now) previous current result }
     {
         let at = self.point(current);
-        let incoming = at.minus(self.point(previous));
-        let norm = root::sqrt(incoming.dot(incoming));
+        let incoming = vector::minus(at, self.point(previous));
+        let norm = root::sqrt(vector::dot(incoming, incoming));
         Arrival {
             node: current,
             at,
@@ -159,20 +157,19 @@ fn is_available(edge: Edge, c: u32, used: bool) -> bool
 #[derive(Clone, Copy)]
 struct Arrival {
     node: u32,
-    at: Vec2,
-    incoming: Vec2,
+    at: [f64; 2],
+    incoming: [f64; 2],
     norm: f64,
 }
 
 impl Arrival {
     // The cosine between the incoming step and the step on to next, cut to -1..1.
-    fn cosine(self, next: Vec2) -> f64
-        ensures { result ≡ cosine_to (vec2 self.incoming) self.norm (vec2 self.at) (vec2 next) }
+    fn cosine(self, next: [f64; 2]) -> f64
+        ensures { result ≡ cosine_to self.incoming self.norm self.at next }
     {
-        let outgoing = next.minus(self.at);
-        let norm = root::sqrt(outgoing.dot(outgoing));
-        let incoming = self.incoming;
-        clamp(incoming.dot(outgoing) / (self.norm * norm))
+        let outgoing = vector::minus(next, self.at);
+        let norm = root::sqrt(vector::dot(outgoing, outgoing));
+        clamp(vector::dot(self.incoming, outgoing) / (self.norm * norm))
     }
 }
 

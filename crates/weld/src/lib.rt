@@ -3,11 +3,8 @@
 
 ghost use Rattle.std.specs.Prelude.{◌≡◌, ◌+◌, ◌*◌, ◌^◌, ◌≤◌, ◌<◌, ◌||◌, cond, eqb, length, take};
 ghost use Rattle.vector.specs.Rows.{row, rows};
-ghost use Rattle.vector.specs.View.{vec2};
 ghost use Rattle.weld.specs.Weld.{Within, between, find, listed};
 ghost use Rattle.weld.specs.Code.{Added, Became, SegmentWelded, Weldable, Welds};
-
-use vector::Vec2;
 
 // How many points and edges there are.
 #[derive(Clone, Copy)]
@@ -48,34 +45,34 @@ fn weld_segment(
         welded.new.edges edges.new }
 {
     let n = welded.points;
-    let p = vector::coord2(segments, 2 * i);
-    let q = vector::coord2(segments, 2 * i + 1);
+    let p = vector::coord(segments, 2 * i);
+    let q = vector::coord(segments, 2 * i + 1);
     let a = push_coord(points, &mut welded.points, p, tol2);
     let b = push_coord(points, &mut welded.points, q, tol2);
     add_edge(edges, &mut welded.edges, n, a, b);
 }
 
 // Adds p to the n points unless one is near already. Gives the number of the point that it is.
-fn push_coord(points: &mut [f64], n: &mut usize, p: Vec2, tol2: f64) -> u32
+fn push_coord(points: &mut [f64], n: &mut usize, p: [f64; 2], tol2: f64) -> u32
     requires { (2 * n.old + 1 < length points.old) × (n.old < 2 ^ 32) }
-    ensures { Became (vec2 p) tol2 n.old points.old result n.new points.new }
+    ensures { Became p tol2 n.old points.old result n.new points.new }
 {
     if let Some(k) = find(points, *n, p, tol2) {
         return k as u32;
     }
     let k = *n;
-    vector::put2(points, k, p);
+    vector::put(points, k, p);
     *n = k + 1;
     k as u32
 }
 
 // The number of the first of the n points within the tolerance of p: the first, not the nearest (docs/RULES.md).
-fn find(points: &[f64], n: usize, p: Vec2, tol2: f64) -> Option<usize>
+fn find(points: &[f64], n: usize, p: [f64; 2], tol2: f64) -> Option<usize>
     requires { 2 * n ≤ length points.now }
-    ensures { result ≡ find (vec2 p) tol2 (rows 2 n points.now) }
+    ensures { result ≡ find p tol2 (rows 2 n points.now) }
 {
     for k in 0..n {
-        if vector::coord2(points, k).dist2(p) <= tol2 {
+        if vector::dist2(vector::coord(points, k), p) <= tol2 {
             return Some(k);
         }
     }

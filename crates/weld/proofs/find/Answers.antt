@@ -10,11 +10,11 @@ loop-k-init c = refl
 
 pub returns-then-dist2-tol2 : goal.returns-then-dist2-tol2
 returns-then-dist2-tol2 c =
-    finding_hit _ _ _ _ _ c.loop-k.invariant c.loop-k-test.true _ c.coord2.ensures _ c.dist2.ensures c.if-dist2-tol2.true
+    finding_hit _ _ _ _ _ c.loop-k.invariant c.loop-k-test.true _ c.coord.ensures _ c.dist2.ensures c.if-dist2-tol2.true
 
 pub loop-k-preserved : goal.loop-k-preserved
 loop-k-preserved c =
-    finding_miss _ _ _ _ _ c.loop-k.invariant c.loop-k-test.true _ c.coord2.ensures _ c.dist2.ensures c.if-dist2-tol2.false
+    finding_miss _ _ _ _ _ c.loop-k.invariant c.loop-k-test.true _ c.coord.ensures _ c.dist2.ensures c.if-dist2-tol2.false
 
 pub returns : goal.returns
 returns c = finding_end _ _ _ _ _ c.loop-k.invariant c.loop-k-test.false
