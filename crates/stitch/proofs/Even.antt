@@ -10,10 +10,10 @@ use native.Mathlib.Omega.{arith}
 use lib.Dec.{eqb}
 use lib.ListN.{length, get_or, set, replicate, length-set, length-replicate}
 use borrow.Author.Tests.{eq-eqb, ne_eqb, eqb-true, eqb-false}
+use Rattle.std.specs.Prelude.{Option, None, Some}
 use Rattle.vector.specs.Vector.{Vector}
-use Rattle.weld.specs.Weld.{Edge, edge, lo, hi, Simple, Within}
-use Rattle.walk.specs.declared.Next.{Next}
-use Rattle.walk.specs.declared.Next.TheVariants as next
+use Rattle.weld.specs.declared.Edge.{Edge}
+use Rattle.weld.specs.Weld.{Simple, Within}
 use Rattle.walk.specs.Walk.{edge_at, touches, other, available, next_edge, Walk, rest, walk_from, walks_from, walks}
 use Rattle.walk.specs.Walk.{All}
 use Rattle.stitch.specs.Claim.{bit, degree}
@@ -66,20 +66,21 @@ or_bit true false h = refl
 or_bit false y h = omega arith
 
 -- an edge ends at its two points, and seen from one of them at that and the other
-own_ends : (v : ℕ) (e : Edge) → lo e < hi e → bit (touches v e) ≡ bit (eqb (lo e) v) + bit (eqb (hi e) v)
-own_ends v (edge a b) d = or_bit (eqb a v) (eqb b v) (λ p q. let x = eqb-true a v p in let y = eqb-true b v q in omega arith)
+own_ends : (v : ℕ) (e : Edge) → e.smaller < e.larger → bit (touches v e) ≡ bit (eqb e.smaller v) + bit (eqb e.larger v)
+own_ends v e d =
+    or_bit (eqb e.smaller v) (eqb e.larger v) (λ p q. let x = eqb-true e.smaller v p in let y = eqb-true e.larger v q in omega arith)
 
-ends : (v c : ℕ) (e : Edge) → touches c e ≡ true → lo e < hi e → bit (touches v e) ≡ bit (eqb c v) + bit (eqb (other c e) v)
-ends v c (edge a b) h d = by_tests (eqb a c) (eqb b c) refl refl h
+ends : (v c : ℕ) (e : Edge) → touches c e ≡ true → e.smaller < e.larger → bit (touches v e) ≡ bit (eqb c v) + bit (eqb (other c e) v)
+ends v c e h d = by_tests (eqb e.smaller c) (eqb e.larger c) refl refl h
   where
-    apart : eqb a v ≡ true → eqb b v ≡ true → ⊥
-    apart p q = let x = eqb-true a v p in let y = eqb-true b v q in omega arith
+    apart : eqb e.smaller v ≡ true → eqb e.larger v ≡ true → ⊥
+    apart p q = let x = eqb-true e.smaller v p in let y = eqb-true e.larger v q in omega arith
 
-    by_tests : (s t : Bool) → eqb a c ≡ s → eqb b c ≡ t → (s || t) ≡ true
-        → bit (eqb a v || eqb b v) ≡ bit (eqb c v) + bit (eqb (cond s b a) v)
-    by_tests true t p q r = rw (← eqb-true a c p) (or_bit (eqb a v) (eqb b v) apart)
-    by_tests false true p q r = rw (← eqb-true b c q) (or_bit (eqb a v) (eqb b v) apart ∙ omega arith)
-    by_tests false false p q r = let z : ◌≡◌ {A = ℕ} 0 1 = cc in absurd (omega arith)
+    by_tests : (s t : Bool) → eqb e.smaller c ≡ s → eqb e.larger c ≡ t → (s || t) ≡ true
+        → bit (eqb e.smaller v || eqb e.larger v) ≡ bit (eqb c v) + bit (eqb (cond s e.larger e.smaller) v)
+    by_tests true t p q r = rw (← eqb-true e.smaller c p) (or_bit (eqb e.smaller v) (eqb e.larger v) apart)
+    by_tests false true p q r = rw (← eqb-true e.larger c q) (or_bit (eqb e.smaller v) (eqb e.larger v) apart ∙ omega arith)
+    by_tests false false p q r = cc
 
 -- ---- one walk
 
@@ -89,7 +90,7 @@ Leaves es true us = (v : ℕ) → marked v es us % 2 ≡ 0
 Leaves es false us = (v : ℕ) × (degree v es % 2 ≡ 1)
 
 module _ (ps : List Vector) (es : List Edge) (simple : Simple es) where
-  step_even : (us : List Bool) (p s c k : ℕ) → next_edge ps es us p c ≡ next.Edge k
+  step_even : (us : List Bool) (p s c k : ℕ) → next_edge ps es us p c ≡ Some k
       → ((v : ℕ) → (marked v es us + bit (eqb s v) + bit (eqb c v)) % 2 ≡ 0)
       → (v : ℕ) → (marked v es (set us k true) + bit (eqb s v) + bit (eqb (other c (edge_at es k)) v)) % 2 ≡ 0
   step_even us p s c k e h v =
@@ -99,14 +100,14 @@ module _ (ps : List Vector) (es : List Edge) (simple : Simple es) where
       let o = h v in
       omega arith
 
-  rest_even : (d : ℕ) (b : Bool) (choice : Next) (s p c : ℕ) (us : List Bool) → b ≡ eqb c s → choice ≡ next_edge ps es us p c
+  rest_even : (d : ℕ) (b : Bool) (choice : Option ℕ) (s p c : ℕ) (us : List Bool) → b ≡ eqb c s → choice ≡ next_edge ps es us p c
       → unused us < d → length us ≡ length es → ((v : ℕ) → (marked v es us + bit (eqb s v) + bit (eqb c v)) % 2 ≡ 0)
       → Leaves es (rest ps es d b choice s c us).closed (rest ps es d b choice s c us).used
   unfolding rest
   rest_even zero b choice s p c us eb en m n h = absurd (not-suc-le-zero m)
   rest_even (suc d) true choice s p c us eb en m n h =
       λ v. let q : c ≡ s = eqb-true c s (sym eb) in let o = h v in let r : bit (eqb c v) ≡ bit (eqb s v) = rw q in omega arith
-  rest_even (suc d) false next.Nothing s p c us eb en m n h = (
+  rest_even (suc d) false None s p c us eb en m n h = (
     c,
     let q = marked_stuck c es us 0 n (next_stuck ps es us p c (sym en)) in
         let o = h c in
@@ -114,7 +115,7 @@ module _ (ps : List Vector) (es : List Edge) (simple : Simple es) where
         let y : bit (eqb s c) ≡ 0 = rw (ne_eqb s c (λ e. eqb-false c s (sym eb) (sym e))) in
         omega arith,
   )
-  rest_even (suc d) false (next.Edge k) s p c us eb en m n h =
+  rest_even (suc d) false (Some k) s p c us eb en m n h =
       let c' = other c (edge_at es k) in
       let us' = set us k true in
       rest_even d (eqb c' s) (next_edge ps es us' c c') s c c' us' refl refl
@@ -125,8 +126,8 @@ module _ (ps : List Vector) (es : List Edge) (simple : Simple es) where
   walk_even : (k : ℕ) (us : List Bool) → get_or us k true ≡ false → k < length es → length us ≡ length es
       → ((v : ℕ) → marked v es us % 2 ≡ 0) → Leaves es (walk_from ps es k us).closed (walk_from ps es k us).used
   walk_even k us f l n h =
-      let a = lo (edge_at es k) in
-      let b = hi (edge_at es k) in
+      let a = (edge_at es k).smaller in
+      let b = (edge_at es k).larger in
       let us' = set us k true in
       rest_even (length es) (eqb b a) (next_edge ps es us' a b) a a b us' refl refl
       (let q = unused_set us k f in let r = unused_le us in omega arith)
@@ -176,8 +177,8 @@ module _ (ps : List Vector) (es : List Edge) (simple : Simple es) where
       (closed_leaves es w.closed w.used s.0 o) s.1 v
 
 -- ---- a point past the last ends no edge
-touch_out : (v n : ℕ) (e : Edge) → lo e < n → hi e < n → n ≤ v → bit (touches v e) ≡ 0
-touch_out v n (edge a b) h k l = rw (ne_eqb a v (λ e. omega arith), ne_eqb b v (λ e. omega arith))
+touch_out : (v n : ℕ) (e : Edge) → e.smaller < n → e.larger < n → n ≤ v → bit (touches v e) ≡ 0
+touch_out v n e h k l = rw (ne_eqb e.smaller v (λ e. omega arith), ne_eqb e.larger v (λ e. omega arith))
 
 degree_out : (v n : ℕ) (es : List Edge) → Within es n → n ≤ v → degree v es ≡ 0
 degree_out v n [] w h = refl

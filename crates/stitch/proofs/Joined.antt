@@ -8,11 +8,11 @@ use native.Mathlib.Omega.{arith}
 use lib.Dec.{eqb}
 use lib.ListN.{length, get_or, set, replicate, length-replicate}
 use borrow.Author.Tests.{eq-eqb, eqb-true}
+use Rattle.std.specs.Prelude.{Option, None, Some}
 use Rattle.vector.specs.Vector.{Vector}
-use Rattle.weld.specs.Weld.{Edge, edge, lo, hi, between, Simple, Distinct}
+use Rattle.weld.specs.declared.Edge.{Edge}
+use Rattle.weld.specs.Weld.{edge, between, Simple, Distinct}
 use Rattle.weld.proofs.Edges.{between_sym}
-use Rattle.walk.specs.declared.Next.{Next}
-use Rattle.walk.specs.declared.Next.TheVariants as next
 use Rattle.walk.specs.Walk.{edge_at, touches, other, next_edge, Walk, onward, rest, walk_from, walks_from, walks}
 use Rattle.walk.specs.Walk.{All}
 use Rattle.stitch.specs.Claim.{bit, edges_walked, Joined, trail}
@@ -23,26 +23,27 @@ use Rattle.walk.proofs.Junction.{next_free}
 use Rattle.stitch.proofs.Once.{walk_length, walk_fair, walked_fair}
 
 -- an edge at c is the one between c and its other end
-joins_other : (c : ℕ) (e : Edge) → touches c e ≡ true → lo e < hi e → e ≡ between c (other c e)
-joins_other c (edge a b) h d = by_tests (eqb a c) (eqb b c) (eqb-true a c) (eqb-true b c) h
+joins_other : (c : ℕ) (e : Edge) → touches c e ≡ true → e.smaller < e.larger → e ≡ between c (other c e)
+joins_other c e h d = by_tests (eqb e.smaller c) (eqb e.larger c) (eqb-true e.smaller c) (eqb-true e.larger c) h
   where
-    by_tests : (s t : Bool) → (s ≡ true → a ≡ c) → (t ≡ true → b ≡ c) → (s || t) ≡ true → edge a b ≡ between c (cond s b a)
+    by_tests : (s t : Bool) → (s ≡ true → e.smaller ≡ c) → (t ≡ true → e.larger ≡ c) → (s || t) ≡ true
+        → edge e.smaller e.larger ≡ between c (cond s e.larger e.smaller)
     by_tests true t x y r =
         let q = x refl in
-        let l : a ≡ min c b = omega arith in
-        let m : b ≡ max c b = omega arith in
+        let l : e.smaller ≡ min c e.larger = omega arith in
+        let m : e.larger ≡ max c e.larger = omega arith in
         rw (← l, ← m)
     by_tests false true x y r =
         let q = y refl in
-        let l : a ≡ min c a = omega arith in
-        let m : b ≡ max c a = omega arith in
+        let l : e.smaller ≡ min c e.smaller = omega arith in
+        let m : e.larger ≡ max c e.smaller = omega arith in
         rw (← l, ← m)
-    by_tests false false x y r = let z : ◌≡◌ {A = ℕ} 0 1 = cc in absurd (omega arith)
+    by_tests false false x y r = cc
 
-own_ends : (e : Edge) → lo e < hi e → e ≡ between (lo e) (hi e)
-own_ends (edge a b) d =
-    let l : a ≡ min a b = omega arith in
-    let m : b ≡ max a b = omega arith in
+own_ends : (e : Edge) → e.smaller < e.larger → e ≡ between e.smaller e.larger
+own_ends e d =
+    let l : e.smaller ≡ min e.smaller e.larger = omega arith in
+    let m : e.larger ≡ max e.smaller e.larger = omega arith in
     rw (← l, ← m)
 
 -- ---- one walk
@@ -71,15 +72,15 @@ module _ (ps : List Vector) (es : List Edge) (simple : Simple es) where
         joined = (e, f.joined);
       }
 
-  rest_from : (d : ℕ) (b : Bool) (choice : Next) (s p c : ℕ) (us : List Bool) → b ≡ eqb c s → choice ≡ next_edge ps es us p c
+  rest_from : (d : ℕ) (b : Bool) (choice : Option ℕ) (s p c : ℕ) (us : List Bool) → b ≡ eqb c s → choice ≡ next_edge ps es us p c
       → unused us < d → From es c s (rest ps es d b choice s c us)
   unfolding rest
   rest_from zero b choice s p c us eb en m = absurd (not-suc-le-zero m)
   rest_from (suc d) true choice s p c us eb en m =
       let q : s ≡ c = sym (eqb-true c s (sym eb)) in
       record { others = []; is = rw q; joined = tt }
-  rest_from (suc d) false next.Nothing s p c us eb en m = record { others = []; is = refl; joined = tt }
-  rest_from (suc d) false (next.Edge k) s p c us eb en m =
+  rest_from (suc d) false None s p c us eb en m = record { others = []; is = refl; joined = tt }
+  rest_from (suc d) false (Some k) s p c us eb en m =
       let f = next_free ps es us p c k (sym en) in
       let c' = other c (edge_at es k) in
       let us' = set us k true in
@@ -88,10 +89,10 @@ module _ (ps : List Vector) (es : List Edge) (simple : Simple es) where
       (rest_from d (eqb c' s) (next_edge ps es us' c c') s c c' us' refl refl (let q = unused_set us k f.free in omega arith))
 
   walk_from_lem : (k : ℕ) (us : List Bool) → get_or us k true ≡ false → k < length es → length us ≡ length es
-      → From es (lo (edge_at es k)) (lo (edge_at es k)) (walk_from ps es k us)
+      → From es (edge_at es k).smaller (edge_at es k).smaller (walk_from ps es k us)
   walk_from_lem k us f l n =
-      let a = lo (edge_at es k) in
-      let b = hi (edge_at es k) in
+      let a = (edge_at es k).smaller in
+      let b = (edge_at es k).larger in
       let us' = set us k true in
       onward_from a k a (rest ps es (length es) (eqb b a) (next_edge ps es us' a b) a b us') b
       (own_ends (edge_at es k) (simple k l))
@@ -108,7 +109,7 @@ module _ (ps : List Vector) (es : List Edge) (simple : Simple es) where
   walk_joined k us f l n =
       let w = walk_from ps es k us in
       let g = walk_from_lem k us f l n in
-      subst (λ (ns : List ℕ). Joined es ns w.edges) (sym (trail_ended w.closed (lo (edge_at es k)) _ ∙ g.is)) g.joined
+      subst (λ (ns : List ℕ). Joined es ns w.edges) (sym (trail_ended w.closed (edge_at es k).smaller _ ∙ g.is)) g.joined
 
   walks_joined : (l : List Edge) (k : ℕ) (b : Bool) (us : List Bool) → k + length l ≡ length us → length us ≡ length es
       → b ≡ get_or us k true → All (λ w. Joined es (trail w.closed w.nodes) w.edges) (walks_from ps es l k b us)
@@ -137,8 +138,8 @@ module _ (es : List Edge) (simple : Simple es) (distinct : Distinct es) where
   three_nodes (a ∷ []) (k ∷ ks) j h f =
       let i = fair_head (length es) k ks f in
       let s = simple k i in
-      let e : lo (edge_at es k) ≡ min a a = ap lo j.0 in
-      let g : hi (edge_at es k) ≡ max a a = ap hi j.0 in
+      let e : (edge_at es k).smaller ≡ min a a = ap (λ e. e.smaller) j.0 in
+      let g : (edge_at es k).larger ≡ max a a = ap (λ e. e.larger) j.0 in
       absurd (omega arith)
   three_nodes (a ∷ b ∷ []) (k ∷ []) j h f = absurd j.1
   three_nodes (a ∷ b ∷ []) (k ∷ i ∷ ks) j h f =

@@ -6,7 +6,7 @@ pub mod Loops
 pub mod Counted
 pub mod Listed
 pub mod Claim
-pub mod Output
+pub mod Area
 pub mod Ending
 pub mod Turns
 pub mod Stitching

@@ -11,7 +11,8 @@ use lib.Dec.{eqb}
 use lib.Ieee.{Float}
 use borrow.Author.Tests.{eq-eqb, ne_eqb, eqb-true, eqb-false}
 use Rattle.vector.specs.Rows.{Seg}
-use Rattle.weld.specs.Weld.{Edge, edge, same, between, listed, becomes, add_edge, edges_from, listed_edges}
+use Rattle.weld.specs.declared.Edge.{Edge}
+use Rattle.weld.specs.Weld.{same, between, listed, becomes, add_edge, edges_from, listed_edges}
 use Rattle.weld.proofs.Edges.{listed_snoc, same_eq}
 use Rattle.stitch.specs.Claim.{some_become}
 
@@ -120,13 +121,13 @@ module _ (p q : ℕ) (apart : p ≡ q → ⊥) where
       by_tests false false x y =
           listed_snoc (between p q) (between a b) es ∙ ap (λ (z : Bool). listed (between p q) es || z) (same_meets a b)
 
-  edges_listed : (l es : List Edge) → listed (between p q) (edges_from l es) ≡ (listed (between p q) es || some_become p q l)
+  edges_listed : (l : List (ℕ × ℕ)) (es : List Edge) → listed (between p q) (edges_from l es) ≡ (listed (between p q) es || some_become p q l)
   unfolding edges_from
   edges_listed [] es = sym (or-false (listed (between p q) es))
-  edges_listed (edge a b ∷ l) es =
-      edges_listed l (add_edge a b es)
-      ∙ ap (λ (x : Bool). x || some_become p q l) (add_listed a b es)
-      ∙ or_assoc (listed (between p q) es) (meets p q a b) (some_become p q l)
+  edges_listed (r ∷ l) es =
+      edges_listed l (add_edge r.0 r.1 es)
+      ∙ ap (λ (x : Bool). x || some_become p q l) (add_listed r.0 r.1 es)
+      ∙ or_assoc (listed (between p q) es) (meets p q r.0 r.1) (some_become p q l)
 
 pub listed_when : (tol2 : Float) (ss : List Seg) (p q : ℕ) → (p ≡ q → ⊥)
     → listed (between p q) (listed_edges tol2 ss) ≡ some_become p q (becomes tol2 ss [])

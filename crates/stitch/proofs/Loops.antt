@@ -2,7 +2,7 @@
 use mathlib.Core.Path.{◌≡◌, refl, ap, sym, ◌∙◌, subst}
 use mathlib.Core.List.{List, [], ◌∷◌, ◌++◌, map, map-append, reverse, reverse_aux, flatten}
 use mathlib.Core.Bool.{Bool, true, false, false≢true, cond}
-use Prim.Native.Nat.{ℕ, suc, ◌+◌, ◌*◌, ◌≤◌, ◌<◌, min, max}
+use Prim.Native.Nat.{ℕ, suc, ◌+◌, ◌*◌, ◌≤◌, ◌<◌, max}
 use native.Mathlib.Nat.{not-suc-le-zero}
 use native.Mathlib.Omega.{arith}
 use lib.Dec.{eqb, ltb}
@@ -11,7 +11,8 @@ use lib.ListN.{length, get_or, length-append, length-reverse_aux}
 use borrow.Author.Tests.{eq-eqb, ltb-false, ltb-true}
 use Rattle.vector.specs.Number.{f0}
 use Rattle.vector.specs.Vector.{Vector}
-use Rattle.weld.specs.Weld.{Edge, same, between, listed, Simple, Within, Distinct}
+use Rattle.weld.specs.declared.Edge.{Edge}
+use Rattle.weld.specs.Weld.{same, between, listed, Simple, Within, Distinct}
 use Rattle.weld.proofs.Edges.{between_sym, same_eq, same_self, listed_at, newer_unlisted}
 use Rattle.stitch.specs.declared.Rule.{Rule}
 use Rattle.walk.specs.Walk.{edge_at, Walk}
@@ -276,7 +277,7 @@ module _ (es : List Edge) (n : ℕ) (w : Within es n) where
       by_test : (t : Bool) → ltb (max a b) n ≡ t → max a b < n
       by_test true e = ltb-true (max a b) n e
       by_test false e =
-          let no : true ≡ false = sym h ∙ newer_unlisted (min a b) (max a b) es n w (ltb-false (max a b) n e) in
+          let no : true ≡ false = sym h ∙ newer_unlisted (between a b) es n w (ltb-false (max a b) n e) in
           let z : ◌≡◌ {A = ℕ} 0 1 = cc in
           absurd (omega arith)
 

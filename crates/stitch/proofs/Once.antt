@@ -10,10 +10,9 @@ use native.Mathlib.Omega.{arith}
 use lib.Dec.{eqb, eqb-zero-suc, eqb-suc-zero, eqb-suc-suc}
 use lib.ListN.{length, get_or, set, replicate, length-set, length-append, length-replicate, get_or-eq_default}
 use borrow.Author.Count.{below_more}
+use Rattle.std.specs.Prelude.{Option, None, Some}
 use Rattle.vector.specs.Vector.{Vector}
-use Rattle.weld.specs.Weld.{Edge, lo, hi}
-use Rattle.walk.specs.declared.Next.{Next}
-use Rattle.walk.specs.declared.Next.TheVariants as next
+use Rattle.weld.specs.declared.Edge.{Edge}
 use Rattle.walk.specs.Walk.{edge_at, other, next_edge, rest, walk_from, walks_from, walks}
 use Rattle.stitch.specs.Claim.{bit, times, edges_walked}
 use Rattle.stitch.proofs.Lists.{times_append, times_self, Fair}
@@ -43,55 +42,55 @@ fresh_bit (suc n) zero = refl
 fresh_bit (suc n) (suc j) = fresh_bit n j
 
 -- a choice is an unused edge
-abbrev pub Chosen : Next → List Bool → Type 0
-Chosen choice us = (k : ℕ) → choice ≡ next.Edge k → get_or us k true ≡ false
+abbrev pub Chosen : Option ℕ → List Bool → Type 0
+Chosen choice us = (k : ℕ) → choice ≡ Some k → get_or us k true ≡ false
 
 -- ---- one walk: it marks each of its edges, and each once
 module _ (ps : List Vector) (es : List Edge) where
   pub next_unused : (us : List Bool) (p c : ℕ) → Chosen (next_edge ps es us p c) us
   next_unused us p c k e = (next_free ps es us p c k e).free
 
-  rest_times : (d : ℕ) (b : Bool) (choice : Next) (s c : ℕ) (us : List Bool) → Chosen choice us → (j : ℕ)
+  rest_times : (d : ℕ) (b : Bool) (choice : Option ℕ) (s c : ℕ) (us : List Bool) → Chosen choice us → (j : ℕ)
       → times j (rest ps es d b choice s c us).edges + bit (get_or us j false) ≡ bit (get_or (rest ps es d b choice s c us).used j false)
   unfolding rest
   rest_times zero b choice s c us f j = omega arith
   rest_times (suc d) true choice s c us f j = omega arith
-  rest_times (suc d) false next.Nothing s c us f j = omega arith
-  rest_times (suc d) false (next.Edge k) s c us f j =
+  rest_times (suc d) false None s c us f j = omega arith
+  rest_times (suc d) false (Some k) s c us f j =
       let c' = other c (edge_at es k) in
       let us' = set us k true in
       let ih = rest_times d (eqb c' s) (next_edge ps es us' c c') s c' us' (next_unused us' c c') j in
       let q = set_bit us k j (f k refl) in
       omega arith
 
-  rest_left : (d : ℕ) (b : Bool) (choice : Next) (s c : ℕ) (us : List Bool) → Chosen choice us
+  rest_left : (d : ℕ) (b : Bool) (choice : Option ℕ) (s c : ℕ) (us : List Bool) → Chosen choice us
       → length (rest ps es d b choice s c us).edges + unused (rest ps es d b choice s c us).used ≡ unused us
   unfolding rest
   rest_left zero b choice s c us f = omega arith
   rest_left (suc d) true choice s c us f = omega arith
-  rest_left (suc d) false next.Nothing s c us f = omega arith
-  rest_left (suc d) false (next.Edge k) s c us f =
+  rest_left (suc d) false None s c us f = omega arith
+  rest_left (suc d) false (Some k) s c us f =
       let c' = other c (edge_at es k) in
       let us' = set us k true in
       let ih = rest_left d (eqb c' s) (next_edge ps es us' c c') s c' us' (next_unused us' c c') in
       let q = unused_set us k (f k refl) in
       omega arith
 
-  rest_length : (d : ℕ) (b : Bool) (choice : Next) (s c : ℕ) (us : List Bool) → length (rest ps es d b choice s c us).used ≡ length us
+  rest_length : (d : ℕ) (b : Bool) (choice : Option ℕ) (s c : ℕ) (us : List Bool) → length (rest ps es d b choice s c us).used ≡ length us
   unfolding rest
   rest_length zero b choice s c us = refl
   rest_length (suc d) true choice s c us = refl
-  rest_length (suc d) false next.Nothing s c us = refl
-  rest_length (suc d) false (next.Edge k) s c us =
+  rest_length (suc d) false None s c us = refl
+  rest_length (suc d) false (Some k) s c us =
       let c' = other c (edge_at es k) in
       rest_length d (eqb c' s) (next_edge ps es (set us k true) c c') s c' (set us k true) ∙ length-set us k true
 
   module _ (k : ℕ) (us : List Bool) (f : get_or us k true ≡ false) where
     abbrev a : ℕ
-    a = lo (edge_at es k)
+    a = (edge_at es k).smaller
 
     abbrev b : ℕ
-    b = hi (edge_at es k)
+    b = (edge_at es k).larger
 
     abbrev us' : List Bool
     us' = set us k true

@@ -5,20 +5,17 @@ use mathlib.Core.Bool.{Bool, true, false}
 use Prim.Native.Nat.{ℕ, suc, ◌+◌, ◌≤◌, ◌<◌}
 use native.Mathlib.Numerals.{add-one}
 use native.Mathlib.Omega.{arith}
-use lib.Ieee.{Float}
 use lib.ListN.{length, get_or, set, drop, replicate, length-append, length-replicate, drop_of_length-le}
 use lib.Seq.{drop-cons, set-append_seam, paste}
 use Rattle.rows.proofs.Lists.{ends_snoc, flatten_snoc, length_ends, over_more}
 use Rattle.vector.specs.Vector.{Vector}
-use Rattle.vector.specs.Rows.{rows, over, ends_from}
-use Rattle.weld.specs.Weld.{Edge}
-use Rattle.weld.specs.Code.{edges_of}
-use Rattle.weld.proofs.Lists.{edges_length}
+use Rattle.vector.specs.Rows.{over, ends_from}
+use Rattle.weld.specs.declared.Edge.{Edge}
 use Rattle.stitch.specs.declared.Rule.{Rule}
 use Rattle.stitch.specs.declared.Tally.{Tally}
 use Rattle.walk.specs.Walk.{no_edge, Walk, walk_from, walks_from, walks}
 use Rattle.stitch.specs.Stitch.{kind, is_loop, turned, loops, in_walks, plus_walk, counts_from, unwalked, counts_of}
-use Rattle.walk.specs.Code.{unused, Marked}
+use Rattle.walk.specs.Code.{unused}
 use Rattle.stitch.specs.Code.{Finished, Spare, Counting, Turn, Wrote}
 use Rattle.walk.proofs.Marks.{fresh_unused}
 use Rattle.stitch.proofs.Once.{walk_left, walk_length}
@@ -192,75 +189,62 @@ module _ (ps : List Vector) (es : List Edge) (rule : Rule) (m : ℕ) (ws : List 
   stitching_step false e fit u = step_free (sym e) u.0 u.1 (fit refl)
 
 -- ---- in the words of the code
-pub record Looping (n : ℕ) (zs : List Float) (xs ys : List ℕ) (rule : Rule) (us₀ : List Bool) (walked₀ nodes₀ ends₀ : List ℕ)
+pub record Looping (ps : List Vector) (es : List Edge) (rule : Rule) (us₀ : List Bool) (walked₀ nodes₀ ends₀ : List ℕ)
     (us : List Bool) (walked nodes ends : List ℕ) (tally : Tally) (k : ℕ) : Type 0 where
-  pub within : k ≤ length xs
   pub marks : length us ≡ length us₀
   pub walked_length : length walked ≡ length walked₀
   pub nodes_length : length nodes ≡ length nodes₀
   pub ends_length' : length ends ≡ length ends₀
-  pub so_far :
-      Stitching (rows 2 n zs) rule (length xs) (walks (rows 2 n zs) (edges_of xs ys)) (left_at (rows 2 n zs) (edges_of xs ys) k us) us tally nodes₀
-      nodes ends₀ ends
+  pub so_far : Stitching ps rule (length es) (walks ps es) (left_at ps es k us) us tally nodes₀ nodes ends₀ ends
 
-pub looping_start : {n : ℕ} {zs : List Float} {xs ys : List ℕ} {rule : Rule} {us : List Bool} {walked nodes ends : List ℕ}
-    → length xs ≡ length ys → us ≡ replicate (length xs) false
-    → Looping n zs xs ys rule us walked nodes ends us walked nodes ends (record { loops = 0; counts = unwalked (length xs) }) 0
-looping_start {n} {zs} {xs} {ys} {rule} {us} {nodes = nodes} {ends = ends} s e =
-    let m = edges_length xs ys s in
+pub looping_start : {ps : List Vector} {es : List Edge} {rule : Rule} {us : List Bool} {walked nodes ends : List ℕ}
+    → us ≡ replicate (length es) false
+    → Looping ps es rule us walked nodes ends us walked nodes ends (record { loops = 0; counts = unwalked (length es) }) 0
+looping_start {ps} {es} {rule} {us} {nodes = nodes} {ends = ends} e =
     record {
-      within = omega arith;
       marks = refl;
       walked_length = refl;
       nodes_length = refl;
       ends_length' = refl;
-      so_far = stitching_start (rows 2 n zs) (edges_of xs ys) rule (length xs) us nodes ends (rw m e);
+      so_far = stitching_start ps es rule (length es) us nodes ends e;
     }
 
-module _ {n : ℕ} {zs : List Float} {xs ys : List ℕ} {rule : Rule} {us₀ : List Bool} {walked₀ nodes₀ ends₀ : List ℕ}
+module _ {ps : List Vector} {es : List Edge} {rule : Rule} {us₀ : List Bool} {walked₀ nodes₀ ends₀ : List ℕ}
     {us : List Bool} {walked nodes ends : List ℕ} {tally : Tally} {k : ℕ}
-    (g : Looping n zs xs ys rule us₀ walked₀ nodes₀ ends₀ us walked nodes ends tally k)
-    (marked₀ : Marked n zs xs ys us₀) (spare₀ : Spare (edges_of xs ys) walked₀ nodes₀ ends₀) where
-  pub looping_marked : Marked n zs xs ys us
-  looping_marked = record { graph = marked₀.graph; marks = g.marks ∙ marked₀.marks }
+    (g : Looping ps es rule us₀ walked₀ nodes₀ ends₀ us walked nodes ends tally k) where
+  module _ (marked₀ : length us₀ ≡ length es) (spare₀ : Spare es walked₀ nodes₀ ends₀) where
+    pub looping_spare : Spare es walked nodes ends
+    looping_spare =
+        let a = g.walked_length in
+        let b = g.nodes_length in
+        let c = g.ends_length' in
+        record {
+          simple = spare₀.simple;
+          distinct = spare₀.distinct;
+          few = spare₀.few;
+          walked_room = omega (arith, spare₀.walked_room);
+          nodes_room = omega (arith, spare₀.nodes_room);
+          ends_room = omega (arith, spare₀.ends_room);
+        }
 
-  pub looping_spare : Spare (edges_of xs ys) walked nodes ends
-  looping_spare =
-      let a = g.walked_length in
-      let b = g.nodes_length in
-      let c = g.ends_length' in
-      record {
-        simple = spare₀.simple;
-        distinct = spare₀.distinct;
-        few = spare₀.few;
-        walked_room = omega (arith, spare₀.walked_room);
-        nodes_room = omega (arith, spare₀.nodes_room);
-        ends_room = omega (arith, spare₀.ends_room);
-      }
+    pub looping_step : k < length es → {us' : List Bool} {walked' nodes' ends' : List ℕ} {r : Tally}
+        → length us' ≡ length us → length walked' ≡ length walked → length nodes' ≡ length nodes → length ends' ≡ length ends
+        → Turn ps es rule k (get_or us k true) us tally nodes ends us' r nodes' ends'
+        → Looping ps es rule us₀ walked₀ nodes₀ ends₀ us' walked' nodes' ends' r (k + 1)
+    looping_step h {us'} {nodes' = nodes'} {ends' = ends'} {r = r} lu lw ln le u =
+        record {
+          marks = lu ∙ g.marks;
+          walked_length = lw ∙ g.walked_length;
+          nodes_length = ln ∙ g.nodes_length;
+          ends_length' = le ∙ g.ends_length';
+          so_far =
+              stitching_step ps es rule (length es) (walks ps es) k us tally nodes₀ nodes ends₀ ends g.so_far h us' r nodes' ends'
+              (get_or us k true) refl
+              (λ f c.
+              let o = closed_walk ps k (g.marks ∙ marked₀) looping_spare g.so_far.counting h f c in
+              record { for_end = (let q = g.ends_length' in omega (arith, o.for_end)); same = o.same; three = o.three })
+              u;
+        }
 
-  pub looping_step : k < length xs → {us' : List Bool} {walked' nodes' ends' : List ℕ} {r : Tally}
-      → length us' ≡ length us → length walked' ≡ length walked → length nodes' ≡ length nodes → length ends' ≡ length ends
-      → Turn (rows 2 n zs) (edges_of xs ys) rule k (get_or us k true) us tally nodes ends us' r nodes' ends'
-      → Looping n zs xs ys rule us₀ walked₀ nodes₀ ends₀ us' walked' nodes' ends' r (k + 1)
-  looping_step h {us'} {nodes' = nodes'} {ends' = ends'} {r = r} lu lw ln le u =
-      let m = edges_length xs ys marked₀.graph.same in
-      record {
-        within = omega arith;
-        marks = lu ∙ g.marks;
-        walked_length = lw ∙ g.walked_length;
-        nodes_length = ln ∙ g.nodes_length;
-        ends_length' = le ∙ g.ends_length';
-        so_far =
-            stitching_step (rows 2 n zs) (edges_of xs ys) rule (length xs) (walks (rows 2 n zs) (edges_of xs ys)) k us tally nodes₀ nodes ends₀ ends
-            g.so_far (omega arith) us' r nodes' ends' (get_or us k true) refl
-            (λ f c.
-            let o = closed_walk k looping_marked looping_spare g.so_far.counting h f c in
-            record { for_end = (let q = g.ends_length' in omega (arith, o.for_end)); same = o.same; three = o.three })
-            u;
-      }
-
-  pub looping_end : length xs ≤ k → Wrote (rows 2 n zs) rule (length xs) (walks (rows 2 n zs) (edges_of xs ys)) tally nodes₀ nodes ends₀ ends
-  looping_end h =
-      let m = edges_length xs ys marked₀.graph.same in
-      stitching_end (rows 2 n zs) (edges_of xs ys) rule (length xs) (walks (rows 2 n zs) (edges_of xs ys)) k us tally nodes₀ nodes ends₀ ends
-      g.so_far (omega arith)
+  pub looping_end : length es ≤ k → Wrote ps rule (length es) (walks ps es) tally nodes₀ nodes ends₀ ends
+  looping_end h = stitching_end ps es rule (length es) (walks ps es) k us tally nodes₀ nodes ends₀ ends g.so_far h

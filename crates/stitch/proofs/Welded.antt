@@ -6,21 +6,21 @@ use Prim.Native.Nat.{ℕ, zero, suc, ◌+◌, ◌*◌, ◌-◌, ◌≤◌, ◌<�
 use native.Mathlib.Nat.{not-suc-le-zero, le_of_suc-le-suc}
 use native.Mathlib.Omega.{arith}
 use lib.Ieee.{Float}
-use lib.ListN.{length, take, drop, replicate, length-replicate, take-append-drop}
-use lib.Seq.{length-take-le, get_or-take, take_at, take-append_seam, drop-append_seam}
+use lib.ListN.{length, take, drop, replicate, take-append-drop}
+use lib.Seq.{length-take-le, take_at, take-append_seam, drop-append_seam}
 use Rattle.vector.specs.Rows.{Seg, rows, segs, over, ends_from}
-use Rattle.weld.specs.Weld.{welded_points, listed_edges}
-use Rattle.weld.specs.Code.{edges_of, Welds}
+use Rattle.weld.specs.declared.Edge.{Edge}
+use Rattle.weld.specs.Weld.{welded_points}
+use Rattle.weld.specs.Code.{Welds}
 use Rattle.weld.proofs.Edges.{listed_simple, listed_distinct}
-use Rattle.weld.proofs.Welding.{edges_exact, points_counted, edges_counted}
+use Rattle.weld.proofs.Welding.{points_counted, edges_counted}
 use Rattle.stitch.specs.declared.Rule.{Rule}
 use Rattle.stitch.specs.declared.Tally.{Tally}
 use Rattle.stitch.specs.declared.Stitched.{Stitched}
 use Rattle.walk.specs.Walk.{walks}
-use Rattle.stitch.specs.Stitch.{counts_of, Answer, stitched_within}
+use Rattle.stitch.specs.Stitch.{Answer, stitched_within}
 use Rattle.stitch.specs.Claim.{Claim}
-use Rattle.walk.specs.Code.{Marked}
-use Rattle.stitch.specs.Code.{Spare, Wrote, Stitchable, Tables, AnswerGiven, cut, answer_in, Stitches}
+use Rattle.stitch.specs.Code.{Spare, Wrote, Stitchable, AnswerGiven, cut, answer_in, Stitches}
 use Rattle.stitch.proofs.Claim.{claim}
 use Rattle.rows.proofs.Lists.{length_ends}
 
@@ -72,127 +72,62 @@ claimed : (rule : Rule) (ss : List Seg) (r : Stitched) (numbers numbers' : List 
 claimed rule ss r numbers numbers' nodes nodes' ends ends' g =
     subst (λ (a : Answer). Claim rule ss a) (sym (read_back (stitched_within rule ss) r numbers numbers' nodes nodes' ends ends' g)) (claim rule ss)
 
--- What the walks need of welding: the parts of the tables that are lent to them are as long as there are edges, and no mark is set.
-pub record Walkable (n m : ℕ) (zs : List Float) (xs ys : List ℕ) (us : List Bool) (walked nodes ends : List ℕ) : Type 0 where
-  pub first_count : m ≡ length (take m xs)
-  pub second_count : m ≡ length (take m ys)
-  pub mark_count : m ≡ length (take m us)
-  pub marked : Marked n zs (take m xs) (take m ys) (take m us)
-  pub spare : Spare (edges_of (take m xs) (take m ys)) walked nodes ends
-  pub fresh : take m us ≡ replicate (length (take m xs)) false
+-- ---- of what welding left
+module _ (rule : Rule) {ss : List Float} {s : ℕ} {zs₀ : List Float} {n m : ℕ} {zs : List Float} {es : List Edge} {nodes ends : List ℕ}
+    (w : Welds rule.tol2 ss s zs₀ n m zs es) (lent : Stitchable s ss zs₀ nodes ends) (room : s ≤ length es) where
+  pub edge_count : length (take m es) ≡ m
+  edge_count = length-take-le m es (omega (arith, w.few_edges))
 
-module _ (rule : Rule) {ss : List Float} {s : ℕ} {zs₀ : List Float} {n m : ℕ} {zs : List Float} {xs ys nodes ends : List ℕ}
-    (w : Welds rule.tol2 ss s zs₀ n m zs xs ys) (lent : Stitchable s ss zs₀ nodes ends) (kept : length zs ≡ length zs₀)
-    (same : length xs ≡ length ys) (room : s ≤ length xs) where
-  few : m ≤ 384
-  few = omega (arith, w.few_edges, lent.few)
-
-  first : m ≡ length (take m xs)
-  first = sym (length-take-le m xs (omega (arith, w.few_edges)))
-
-  second : m ≡ length (take m ys)
-  second = sym (length-take-le m ys (omega (arith, w.few_edges)))
-
-  marks : m ≡ length (take m (replicate 384 false))
-  marks = sym (ap length (fresh_part 384 m few) ∙ length-replicate m false)
-
-  welded_marked : Marked n zs (take m xs) (take m ys) (take m (replicate 384 false))
-  welded_marked =
-      let a = first in
-      let b = second in
-      record {
-        graph =
-            record {
-              room = omega (arith, w.few_points, lent.for_points);
-              same = omega arith;
-              within = λ k h. (let i : k < m = omega arith in rw (get_or-take m xs k 0 i, get_or-take m ys k 0 i) (w.within k i));
-            };
-        marks = sym marks ∙ a;
-      }
-
-  exact : edges_of (take m xs) (take m ys) ≡ listed_edges rule.tol2 (segs 2 s ss)
-  exact = edges_exact w
-
-  edge_count : length (listed_edges rule.tol2 (segs 2 s ss)) ≡ m
-  edge_count = edges_counted w same room
-
-  welded_spare : (walked : List ℕ) → s < length walked → Spare (edges_of (take m xs) (take m ys)) walked nodes ends
+  pub welded_spare : (walked : List ℕ) → s < length walked → Spare (take m es) walked nodes ends
   welded_spare walked l =
-      let c = edge_count in
+      let c = edges_counted w room in
       let d = w.few_edges in
-      rw exact
+      rw w.edges
       (record {
         simple = listed_simple rule.tol2 (segs 2 s ss);
         distinct = listed_distinct rule.tol2 (segs 2 s ss);
         few = omega (arith, lent.few);
-        walked_room = omega (arith, lent.few);
+        walked_room = omega arith;
         nodes_room = omega (arith, lent.for_nodes);
         ends_room = omega (arith, lent.for_ends);
       })
 
-  pub walkable : (us : List Bool) (walked : List ℕ) → us ≡ replicate 384 false → s < length walked
-      → Walkable n m zs xs ys us walked nodes ends
-  walkable us walked e l =
-      rw e
-      (record {
-        first_count = first;
-        second_count = second;
-        mark_count = marks;
-        marked = welded_marked;
-        spare = welded_spare walked l;
-        fresh = fresh_part 384 m few ∙ ap (λ (k : ℕ). replicate k false) first;
-      })
+  -- the marks of the edges are fresh
+  pub fresh : (k : ℕ) → s ≤ k → take m (replicate k false) ≡ replicate (length (take m es)) false
+  fresh k h = fresh_part k m (omega (arith, w.few_edges)) ∙ ap (λ (j : ℕ). replicate j false) (sym edge_count)
 
-  numbers : zs ≡ over (flatten (welded_points rule.tol2 (segs 2 s ss))) zs₀
-  numbers =
-      let room : 2 * n ≤ length zs = omega (arith, w.few_points, lent.for_points) in
-      let first : flatten (welded_points rule.tol2 (segs 2 s ss)) ≡ take (2 * n) zs = ap flatten (sym w.points) ∙ flatten_rows n zs room in
-      let l : length (take (2 * n) zs) ≡ 2 * n = length-take-le (2 * n) zs room in
-      rw (first, l, ← w.rest) (sym (take-append-drop (2 * n) zs))
+  module _ (kept : length zs ≡ length zs₀) where
+    numbers : zs ≡ over (flatten (welded_points rule.tol2 (segs 2 s ss))) zs₀
+    numbers =
+        let room : 2 * n ≤ length zs = omega (arith, w.few_points, lent.for_points) in
+        let first : flatten (welded_points rule.tol2 (segs 2 s ss)) ≡ take (2 * n) zs = ap flatten (sym w.points) ∙ flatten_rows n zs room in
+        let l : length (take (2 * n) zs) ≡ 2 * n = length-take-le (2 * n) zs room in
+        rw (first, l, ← w.rest) (sym (take-append-drop (2 * n) zs))
 
-  answer_given : (tally : Tally) (nodes' ends' : List ℕ)
-      → Wrote (rows 2 n zs) rule (length (take m xs)) (walks (rows 2 n zs) (edges_of (take m xs) (take m ys))) tally nodes nodes' ends ends'
-      → AnswerGiven (stitched_within rule (segs 2 s ss))
-      (record { points = n; nodes = tally.counts.in_loops; loops = tally.loops; counts = tally.counts })
-      zs₀ zs nodes nodes' ends ends'
-  unfolding stitched_within
-  answer_given tally nodes' ends' o =
-      let ps = welded_points rule.tol2 (segs 2 s ss) in
-      let es = listed_edges rule.tol2 (segs 2 s ss) in
-      let a = first in
-      let p = rw (w.points, exact, ← a) at o in
-      record {
-        numbers_are = numbers;
-        points_are = w.points;
-        nodes_are = p.nodes_are;
-        ends_are = p.ends_are;
-        point_count = sym (points_counted w);
-        node_count = p.node_count;
-        loop_count = p.loop_count;
-        counts_are = ap (λ (k : ℕ). counts_of ps rule k (walks ps es)) edge_count ∙ p.counts_are;
-      }
+    answer_given : (tally : Tally) (nodes' ends' : List ℕ)
+        → Wrote (rows 2 n zs) rule (length (take m es)) (walks (rows 2 n zs) (take m es)) tally nodes nodes' ends ends'
+        → AnswerGiven (stitched_within rule (segs 2 s ss))
+        (record { points = n; nodes = tally.counts.in_loops; loops = tally.loops; counts = tally.counts })
+        zs₀ zs nodes nodes' ends ends'
+    unfolding stitched_within
+    answer_given tally nodes' ends' o =
+        let p = rw (w.points, w.edges) at o in
+        record {
+          numbers_are = numbers;
+          points_are = w.points;
+          nodes_are = p.nodes_are;
+          ends_are = p.ends_are;
+          point_count = sym (points_counted w);
+          node_count = p.node_count;
+          loop_count = p.loop_count;
+          counts_are = p.counts_are;
+        }
 
-  pub stitches : (tally : Tally) (nodes' ends' : List ℕ)
-      → Wrote (rows 2 n zs) rule (length (take m xs)) (walks (rows 2 n zs) (edges_of (take m xs) (take m ys))) tally nodes nodes' ends ends'
-      → Stitches rule (segs 2 s ss)
-      (record { points = n; nodes = tally.counts.in_loops; loops = tally.loops; counts = tally.counts })
-      zs₀ zs nodes nodes' ends ends'
-  stitches tally nodes' ends' o =
-      let g = answer_given tally nodes' ends' o in
-      record { gave = g; claim = claimed rule (segs 2 s ss) _ zs₀ zs nodes nodes' ends ends' g }
-
--- ---- the tables of a tier, for n segments
-pub tables_for : (n s : ℕ) → s ≤ n
-    → Tables s (replicate n 0) (replicate n 0) (replicate 384 false) (replicate (n + 1) 0) (replicate (2 * n) 0)
-tables_for n s h =
-    let a = length-replicate n zero in
-    let b = length-replicate (n + 1) zero in
-    let c = length-replicate (2 * n) zero in
-    record {
-      same = refl;
-      for_edges = omega arith;
-      unmarked = refl;
-      for_walk = omega arith;
-      for_lasts = omega arith;
-      zeros = rw c;
-    }
+    pub stitches : (tally : Tally) (nodes' ends' : List ℕ)
+        → Wrote (rows 2 n zs) rule (length (take m es)) (walks (rows 2 n zs) (take m es)) tally nodes nodes' ends ends'
+        → Stitches rule (segs 2 s ss)
+        (record { points = n; nodes = tally.counts.in_loops; loops = tally.loops; counts = tally.counts })
+        zs₀ zs nodes nodes' ends ends'
+    stitches tally nodes' ends' o =
+        let g = answer_given tally nodes' ends' o in
+        record { gave = g; claim = claimed rule (segs 2 s ss) _ zs₀ zs nodes nodes' ends ends' g }

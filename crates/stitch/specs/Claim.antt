@@ -3,7 +3,8 @@
 use Rattle.std.specs.Prelude.{◌≡◌, Bool, true, false, ◌&&◌, ◌||◌, ◌↔◌, ℕ, ◌+◌, ◌*◌, ◌%◌, ◌≤◌, ◌<◌, eqb, length, get_or}
 use mathlib.Core.List.{List, [], ◌∷◌, ◌++◌, flatten}
 use Rattle.vector.specs.Rows.{Seg}
-use Rattle.weld.specs.Weld.{Edge, edge, same, between, listed, becomes, welded_points, listed_edges, Simple, Within, Distinct}
+use Rattle.weld.specs.declared.Edge.{Edge}
+use Rattle.weld.specs.Weld.{same, between, listed, becomes, welded_points, listed_edges, Simple, Within, Distinct}
 use Rattle.stitch.specs.declared.Rule.{Rule}
 use Rattle.walk.specs.Walk.{All, edge_at, touches, Walk, walks}
 use Rattle.stitch.specs.Stitch.{loops, in_walks, counts_of, Answer}
@@ -26,9 +27,9 @@ times_edge e [] = 0
 times_edge e (f ∷ l) = bit (same f e) + times_edge e l
 
 -- the two ends of some segment become a and b, in either order
-abbrev pub some_become : ℕ → ℕ → List Edge → Bool
+abbrev pub some_become : ℕ → ℕ → List (ℕ × ℕ) → Bool
 some_become a b [] = false
-some_become a b (edge p q ∷ l) = ((eqb p a && eqb q b) || (eqb p b && eqb q a)) || some_become a b l
+some_become a b (p ∷ l) = ((eqb p.0 a && eqb p.1 b) || (eqb p.0 b && eqb p.1 a)) || some_become a b l
 
 -- the edges of all walks, by number
 abbrev pub edges_walked : List Walk → List ℕ

@@ -1,10 +1,11 @@
 -- What the clauses of the code cite. Definitions only.
-use Rattle.std.specs.Prelude.{◌≡◌, Bool, true, false, cond, ℕ, ◌+◌, ◌*◌, ◌-◌, ◌/◌, ◌≤◌, ◌<◌, length, replicate, set, take, drop, Float}
+use Rattle.std.specs.Prelude.{◌≡◌, Bool, true, false, cond, ℕ, ◌+◌, ◌*◌, ◌-◌, ◌/◌, ◌≤◌, ◌<◌, length, set, take, drop, Float}
 use mathlib.Core.List.{List, [], ◌∷◌, flatten}
 use Rattle.std.proofs.Math.Seq.{paste}
 use Rattle.vector.specs.Vector.{Vector}
 use Rattle.vector.specs.Rows.{Seg, rows, over, ends_from}
-use Rattle.weld.specs.Weld.{Edge, Simple, Distinct}
+use Rattle.weld.specs.declared.Edge.{Edge}
+use Rattle.weld.specs.Weld.{Simple, Distinct}
 use Rattle.walk.specs.Walk.{Walk, walk_from}
 use Rattle.walk.specs.Code.{unused, Below}
 use Rattle.stitch.specs.declared.Kind.{Kind}
@@ -33,8 +34,7 @@ pub record Finished (κ : Kind) (l : List ℕ) (m : ℕ) (tally : Tally) (nodes 
   pub ends_are : ends' ≡ cond (is_loop κ) (set ends tally.loops (tally.counts.in_loops + m)) ends
 
 -- what ending a walk needs: its nodes are points, and there is room for it
-pub record Finishing (n : ℕ) (points : List Float) (walked : List ℕ) (closed : Bool) (tally : Tally) (nodes ends : List ℕ) : Type 0 where
-  pub room : 2 * n ≤ length points
+pub record Finishing (n : ℕ) (walked : List ℕ) (closed : Bool) (tally : Tally) (nodes ends : List ℕ) : Type 0 where
   pub some : 0 < length walked
   pub below : Below n walked
   -- so that no sum of counts wraps
@@ -84,16 +84,6 @@ pub record Stitchable (s : ℕ) (segments numbers : List Float) (nodes ends : Li
   pub for_points : 4 * s ≤ length numbers
   pub for_nodes : s ≤ length nodes
   pub for_ends : s / 3 ≤ length ends
-
--- the tables that s segments need: edges by their two ends, marks for all 384 places, the nodes of a walk, and the last edge of each point
-pub record Tables (s : ℕ) (smaller larger : List ℕ) (used : List Bool) (walked last : List ℕ) : Type 0 where
-  pub same : length smaller ≡ length larger
-  pub for_edges : s ≤ length smaller
-  pub unmarked : used ≡ replicate 384 false
-  -- an open walk of all edges has one node more
-  pub for_walk : s < length walked
-  pub for_lasts : 2 * s ≤ length last
-  pub zeros : last ≡ replicate (length last) 0
 
 -- An answer has been given: its points, the nodes of its loops and their ends are written over the start of the buffers, whose
 -- remainder is as before, and its counts are returned.

@@ -1,16 +1,16 @@
 -- Stitching alone, as an equation over every input; and what the caller of an entry that gives a section sees. Definitions and statements
 -- only; the theorems are in proofs/Entries.antt.
-use Rattle.std.specs.Prelude.{◌≡◌, Bool, ◌&&◌, ℕ, ◌*◌, ◌/◌, ◌%◌, ◌≤◌, eqb, leb, length, Float}
+use Rattle.std.specs.Prelude.{◌≡◌, Bool, ◌&&◌, Result, Ok, Err, ℕ, ◌*◌, ◌/◌, ◌%◌, ◌≤◌, eqb, leb, length, Float}
 use mathlib.Core.List.{List, [], flatten}
 use Rattle.rows.specs.Outcome.{Outcome, refused, found, unless, Sound}
+use Rattle.rows.specs.Refusals.{number}
+use Rattle.rows.specs.declared.Refusal.{Refusal}
 use Rattle.vector.specs.Vector.{Vector}
 use Rattle.vector.specs.Rows.{rows, segs, over, ends_from}
 use Rattle.stitch.specs.Stitch.{Answer, in_walks, rule_of, stitched, unwalked}
 use Rattle.stitch.specs.Claim.{Claim}
 use Rattle.stitch.specs.Code.{answer_in}
 use Rattle.stitch.specs.declared.Stitched.{Stitched}
-use Rattle.stitch.specs.declared.alone.Section as S
-use Rattle.stitch.specs.declared.alone.Section.TheVariants as s
 
 -- ---- the buffers that are lent
 
@@ -66,9 +66,9 @@ told (refused k) = told_refused k
 told (found a) = told_answer a
 
 -- the rules' number and values for each case of the code's answer
-abbrev pub section_told : S.Section → Told
-section_told (s.Refused k) = told_refused k
-section_told (s.Cut r) = record { refusal = 0; answer = r.stitched }
+abbrev pub section_told : Result Stitched Refusal → Told
+section_told (Err refusal) = told_refused (number refusal)
+section_told (Ok stitched) = record { refusal = 0; answer = stitched }
 
 -- the points, and the loops by their nodes; a refusal has none
 abbrev pub points_of : Outcome Answer → List Vector

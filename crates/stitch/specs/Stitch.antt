@@ -5,7 +5,8 @@ use Rattle.std.specs.Float.Ieee.{add, sub, mul, div, lt}
 use Rattle.vector.specs.Number.{f0, abs}
 use Rattle.vector.specs.Vector.{Vector, at}
 use Rattle.vector.specs.Rows.{Seg}
-use Rattle.weld.specs.Weld.{Edge, points_from, becomes, edges_from, welded_points, listed_edges}
+use Rattle.weld.specs.declared.Edge.{Edge}
+use Rattle.weld.specs.Weld.{points_from, becomes, edges_from, welded_points, listed_edges}
 use Rattle.stitch.specs.declared.Counts.{Counts}
 use Rattle.stitch.specs.declared.Kind.{Kind}
 use Rattle.stitch.specs.declared.Kind.TheVariants.{Loop, Flat, Open}

@@ -3,19 +3,7 @@ ghost use Rattle.std.specs.Prelude.{◌≡◌};
 ghost use Rattle.stitch.specs.Entry.{Gave, buffers, lengths, room, section_told, stitch_alone};
 
 use crate::{Stitched, stitch_segments};
-
-// The number of a refusal, or the section.
-#[derive(Clone, Copy)]
-pub enum Section {
-    Refused(u8),
-    Cut(Sectioned),
-}
-
-// How much was written and the counts of edges.
-#[derive(Clone, Copy)]
-pub struct Sectioned {
-    pub stitched: Stitched,
-}
+use rows::Refusal;
 
 // Stitches segments of four numbers each, at most 384: their points, the nodes of the loops, and where each loop ends
 // among them.
@@ -25,7 +13,7 @@ pub fn stitch_alone(
     numbers: &mut [f64],
     nodes: &mut [u32],
     ends: &mut [u32],
-) -> Section
+) -> Result<Stitched, Refusal>
     ensures { Gave
         (stitch_alone segments.now tol
         (lengths (buffers numbers.old nodes.old ends.old)))
@@ -34,27 +22,20 @@ pub fn stitch_alone(
 {
     let s = segments.len() / 4;
     if segments.len() % 4 != 0 {
-        return Section::Refused(8);
+        return Err(Refusal::Segments);
     }
     if s > 384 {
-        return Section::Refused(8);
+        return Err(Refusal::Segments);
     }
     if !room(4 * s, s, s / 3, numbers.len(), nodes.len(), ends.len()) {
-        return Section::Refused(7);
+        return Err(Refusal::ShortBuffer);
     }
-    Section::Cut(Sectioned {
-        stitched: stitch_segments(segments, s, tol, numbers, nodes, ends),
-    })
+    Ok(stitch_segments(segments, s, tol, numbers, nodes, ends))
 }
 
 // Whether buffers of lengths a, b and c hold x numbers, y nodes and z ends.
 pub fn room(x: usize, y: usize, z: usize, a: usize, b: usize, c: usize) -> bool
     ensures { result ≡ room x y z (record { numbers = a; nodes = b; ends = c }) }
 {
-    if x <= a {
-        if y <= b {
-            return z <= c;
-        }
-    }
-    false
+    x <= a && y <= b && z <= c
 }

@@ -6,14 +6,13 @@ pub mod alone;
 ghost use Rattle.std.specs.Prelude.{◌≡◌, cond, false, true, reverse, ◌*◌, ◌+◌, ◌<◌, ◌≤◌, get_or, length, replicate};
 ghost use Rattle.std.proofs.Math.Seq.{paste};
 ghost use Rattle.vector.specs.Rows.{rows, segs};
-ghost use Rattle.weld.specs.Code.{edges_of};
 ghost use Rattle.walk.specs.Walk.{point_at, walks};
-ghost use Rattle.walk.specs.Code.{Below, Lasts, Marked};
+ghost use Rattle.walk.specs.Code.{Below};
 ghost use Rattle.stitch.specs.Stitch.{cross2, in_walks, kind_by, plus_walk, rule_of, signed_area, turned};
-ghost use Rattle.stitch.specs.Code.{Counting, Finished, Finishing, Spare, Stitchable, Stitches, Tables, Turn};
-ghost use Rattle.stitch.specs.Code.{Wrote, edges_in};
+ghost use Rattle.stitch.specs.Code.{Counting, Finished, Finishing, Spare, Stitchable, Stitches, Turn, Wrote, edges_in};
 
-use walk::wide;
+use walk::Graph;
+use weld::Edge;
 
 // How many points, nodes and loops were written, and the counts of edges.
 #[derive(Clone, Copy)]
@@ -47,19 +46,20 @@ impl Counts {
         requires { in_walks self + edges < 65536 }
         ensures { result ≡ plus_walk kind edges self }
     {
-        let mut counts = self;
         match kind {
-            Kind::Loop => {
-                counts.in_loops = self.in_loops + edges;
-            }
-            Kind::Flat => {
-                counts.flat = self.flat + edges;
-            }
-            Kind::Open => {
-                counts.opened = self.opened + edges;
-            }
+            Kind::Loop => Counts {
+                in_loops: self.in_loops + edges,
+                ..self
+            },
+            Kind::Flat => Counts {
+                flat: self.flat + edges,
+                ..self
+            },
+            Kind::Open => Counts {
+                opened: self.opened + edges,
+                ..self
+            },
         }
-        counts
     }
 }
 
@@ -86,117 +86,47 @@ pub fn stitch_segments(
         numbers.new nodes.old nodes.new ends.old ends.new }
 {
     let rule = Rule { tol2: tol * tol };
-    if 16 < s {
-        return stitch_many(segments, s, rule, numbers, nodes, ends);
+    if s <= 16 {
+        return stitch_within::<16, 32>(segments, s, rule, numbers, nodes, ends);
     }
-    stitch_few(segments, s, rule, numbers, nodes, ends)
+    stitch_within::<384, 768>(segments, s, rule, numbers, nodes, ends)
 }
 
-// Stitches by a rule, with tables for 16 segments.
-fn stitch_few(
+// Stitches by a rule, with tables for EDGES segments and their POINTS points.
+fn stitch_within<const EDGES: usize, const POINTS: usize>(
     segments: &[f64],
     s: usize,
     rule: Rule,
-    numbers: &mut [f64],
-    nodes: &mut [u32],
-    ends: &mut [u32],
-) -> Stitched
-    requires { Stitchable s segments.now numbers.old nodes.old ends.old × (s ≤ 16) }
-    ensures { Stitches rule (segs 2 s segments.now) result numbers.old numbers.new
-        nodes.old nodes.new ends.old ends.new }
-{
-    let mut smaller = [0u32; 16];
-    let mut larger = [0u32; 16];
-    let mut used = [false; 384];
-    let mut walked = [0u32; 17];
-    let mut last = [0u16; 32];
-    stitch_within(
-        segments,
-        s,
-        rule,
-        &mut smaller,
-        &mut larger,
-        &mut used,
-        &mut walked,
-        &mut last,
-        numbers,
-        nodes,
-        ends,
-    )
-}
-
-// The same with tables for 384 segments.
-fn stitch_many(
-    segments: &[f64],
-    s: usize,
-    rule: Rule,
-    numbers: &mut [f64],
-    nodes: &mut [u32],
-    ends: &mut [u32],
-) -> Stitched
-    requires { Stitchable s segments.now numbers.old nodes.old ends.old }
-    ensures { Stitches rule (segs 2 s segments.now) result numbers.old numbers.new
-        nodes.old nodes.new ends.old ends.new }
-{
-    let mut smaller = [0u32; 384];
-    let mut larger = [0u32; 384];
-    let mut used = [false; 384];
-    let mut walked = [0u32; 385];
-    let mut last = [0u16; 768];
-    stitch_within(
-        segments,
-        s,
-        rule,
-        &mut smaller,
-        &mut larger,
-        &mut used,
-        &mut walked,
-        &mut last,
-        numbers,
-        nodes,
-        ends,
-    )
-}
-
-// The same: the edges, their marks and the nodes of a walk are in lent slices.
-fn stitch_within(
-    segments: &[f64],
-    s: usize,
-    rule: Rule,
-    smaller: &mut [u32],
-    larger: &mut [u32],
-    used: &mut [bool],
-    walked: &mut [u32],
-    last: &mut [u16],
     numbers: &mut [f64],
     nodes: &mut [u32],
     ends: &mut [u32],
 ) -> Stitched
     requires { Stitchable s segments.now numbers.old nodes.old ends.old
-        × Tables s smaller.old larger.old used.old walked.old last.old }
+        × (s ≤ EDGES) × (EDGES < POINTS) × (2 * EDGES ≤ POINTS) × (POINTS ≤ 768) }
     ensures { Stitches rule (segs 2 s segments.now) result numbers.old numbers.new
         nodes.old nodes.new ends.old ends.new }
 {
-    let w = weld::weld(segments, s, rule.tol2, numbers, smaller, larger);
-    let m = w.edges;
-    let tally = stitch_edges(
-        numbers,
-        w.points,
-        &smaller[..m],
-        &larger[..m],
-        rule,
-        &mut used[..m],
-        walked,
-        last,
-        nodes,
-        ends,
-    );
-    let counts = tally.counts;
+    let mut edges = [Edge {
+        smaller: 0,
+        larger: 0,
+    }; EDGES];
+    let mut used = [false; EDGES];
+    let mut walked = [0; POINTS];
+    let mut past = [0; POINTS];
+    let w = weld::weld(segments, s, rule.tol2, numbers, &mut edges);
+    walk::past_edges(&edges[..w.edges], &mut past);
+    let graph = Graph {
+        points: numbers,
+        n: w.points,
+        edges: &edges[..w.edges],
+        past: &past,
+    };
+    let tally = stitch_edges(&graph, rule, &mut used[..w.edges], &mut walked, nodes, ends);
     Stitched {
         points: w.points,
-        nodes: counts.in_loops,
+        nodes: tally.counts.in_loops,
         loops: tally.loops,
-        counts: counts,
+        counts: tally.counts,
     }
 }
 
@@ -209,149 +139,122 @@ struct Tally {
 
 // Walks from each unused edge in listed order, and writes the loops.
 fn stitch_edges(
-    points: &[f64],
-    n: usize,
-    smaller: &[u32],
-    larger: &[u32],
+    graph: &Graph,
     rule: Rule,
     used: &mut [bool],
     walked: &mut [u32],
-    last: &mut [u16],
     nodes: &mut [u32],
     ends: &mut [u32],
 ) -> Tally
-    requires { Marked n points.now smaller.now larger.now used.old
-        × Spare (edges_of smaller.now larger.now) walked.old nodes.old ends.old
-        × (used.old ≡ replicate (length smaller.now) false) × (n ≤ length last.old)
-        × (last.old ≡ replicate (length last.old) 0) }
-    ensures { Wrote (rows 2 n points.now) rule (length smaller.now)
-        (walks (rows 2 n points.now) (edges_of smaller.now larger.now)) result
+    requires { Spare graph.now.edges.now walked.old nodes.old ends.old
+        × (used.old ≡ replicate (length graph.now.edges.now) false) }
+    ensures { Wrote (rows 2 graph.now.n graph.now.points.now) rule (length graph.now.edges.now)
+        (walks (rows 2 graph.now.n graph.now.points.now) graph.now.edges.now) result
         nodes.old nodes.new ends.old ends.new }
 {
-    walk::last_edges(smaller, larger, last);
     let mut tally = Tally {
         loops: 0,
         counts: Counts {
-            listed: smaller.len(),
+            listed: graph.edges.len(),
             in_loops: 0,
             flat: 0,
             opened: 0,
         },
     };
-    let mut k = 0;
-    while k < smaller.len() {
-        tally = stitch_from(
-            points, n, smaller, larger, last, k, rule, used, walked, nodes, ends, tally,
-        );
-        k += 1;
+    for k in 0..graph.edges.len() {
+        stitch_from(graph, k, rule, used, walked, nodes, ends, &mut tally);
     }
     tally
 }
 
 // Walks from edge k, unless it is used already.
 fn stitch_from(
-    points: &[f64],
-    n: usize,
-    smaller: &[u32],
-    larger: &[u32],
-    last: &[u16],
+    graph: &Graph,
     k: usize,
     rule: Rule,
     used: &mut [bool],
     walked: &mut [u32],
     nodes: &mut [u32],
     ends: &mut [u32],
-    tally: Tally,
-) -> Tally
-    requires { Marked n points.now smaller.now larger.now used.old
-        × Spare (edges_of smaller.now larger.now) walked.old nodes.old ends.old × (k < length smaller.now)
-        × Counting tally used.old × (n ≤ length last.now) × Lasts (edges_of smaller.now larger.now) last.now }
-    ensures { Turn (rows 2 n points.now) (edges_of smaller.now larger.now) rule
-        k (get_or used.old k true) used.old tally nodes.old ends.old
-        used.new result nodes.new ends.new }
+    tally: &mut Tally,
+)
+    requires { Spare graph.now.edges.now walked.old nodes.old ends.old × (k < length graph.now.edges.now)
+        × (length used.old ≡ length graph.now.edges.now) × Counting tally.old used.old }
+    ensures { Turn (rows 2 graph.now.n graph.now.points.now) graph.now.edges.now rule
+        k (get_or used.old k true) used.old tally.old nodes.old ends.old
+        used.new tally.new nodes.new ends.new }
 {
     if used[k] {
-        return tally;
+        return;
     }
-    let w = walk::walk(points, n, smaller, larger, last, k, used, walked);
-    let count = w.nodes;
+    let w = graph.walk(k, used, walked);
     finish(
-        points,
-        n,
-        &walked[..count],
+        graph,
+        &walked[..w.nodes],
         w.closed,
         rule,
         nodes,
         ends,
         tally,
-    )
+    );
 }
 
 // Ends a walk: its nodes are written if it is a loop, and its edges are counted. A closed walk has three
 // nodes at least (`three` of the claim), so that is not tested.
 fn finish(
-    points: &[f64],
-    n: usize,
+    graph: &Graph,
     walked: &[u32],
     closed: bool,
     rule: Rule,
     nodes: &mut [u32],
     ends: &mut [u32],
-    tally: Tally,
-) -> Tally
-    requires { Finishing n points.now walked.now closed tally nodes.old ends.old }
-    ensures { Finished (kind_by (rows 2 n points.now) rule closed walked.now)
-        (turned (rows 2 n points.now) walked.now)
-        (edges_in closed (length walked.now)) tally nodes.old ends.old result
+    tally: &mut Tally,
+)
+    requires { Finishing graph.now.n walked.now closed tally.old nodes.old ends.old }
+    ensures { Finished (kind_by (rows 2 graph.now.n graph.now.points.now) rule closed walked.now)
+        (turned (rows 2 graph.now.n graph.now.points.now) walked.now)
+        (edges_in closed (length walked.now)) tally.old nodes.old ends.old tally.new
         nodes.new ends.new }
 {
     let m = walked.len();
     let counts = tally.counts;
     if !closed {
-        return Tally {
-            loops: tally.loops,
-            counts: counts.plus(Kind::Open, m - 1),
-        };
+        tally.counts = counts.plus(Kind::Open, m - 1);
+        return;
     }
-    let area = signed_area(points, n, walked);
+    let area = signed_area(graph, walked);
     if rule.tol2 < vector::absolute(area) {
-        let at = tally.loops;
         put_loop(walked, area < 0.0, nodes, counts.in_loops);
-        ends[at] = (counts.in_loops + m) as u32;
-        return Tally {
-            loops: at + 1,
-            counts: counts.plus(Kind::Loop, m),
-        };
+        ends[tally.loops] = (counts.in_loops + m) as u32;
+        tally.loops += 1;
+        tally.counts = counts.plus(Kind::Loop, m);
+        return;
     }
-    Tally {
-        loops: tally.loops,
-        counts: counts.plus(Kind::Flat, m),
-    }
+    tally.counts = counts.plus(Kind::Flat, m);
 }
 
 // Half the sum of the cross products of cyclic neighbours.
-fn signed_area(points: &[f64], n: usize, nodes: &[u32]) -> f64
-    requires { (2 * n ≤ length points.now) × (0 < length nodes.now) × Below n nodes.now }
-    ensures { result ≡ signed_area (rows 2 n points.now) nodes.now }
+fn signed_area(graph: &Graph, nodes: &[u32]) -> f64
+    requires { (0 < length nodes.now) × Below graph.now.n nodes.now }
+    ensures { result ≡ signed_area (rows 2 graph.now.n graph.now.points.now) nodes.now }
 {
+    let last = nodes.len() - 1;
     let mut area2 = 0.0;
-    let mut i = 0;
-    while i < nodes.len() - 1 {
-        area2 = area2 + cross_at(points, n, nodes[i], nodes[i + 1]);
-        i += 1;
+    for i in 0..last {
+        area2 += cross_at(graph, nodes[i], nodes[i + 1]);
     }
-    (area2 + cross_at(points, n, nodes[i], nodes[0])) / 2.0
+    (area2 + cross_at(graph, nodes[last], nodes[0])) / 2.0
 }
 
 // The cross product of the points a and b.
-fn cross_at(points: &[f64], n: usize, a: u32, b: u32) -> f64
-    requires { (2 * n ≤ length points.now) × (a < n) × (b < n) }
-    ensures { result ≡ cross2 (point_at (rows 2 n points.now) a)
-        (point_at (rows 2 n points.now) b) }
+fn cross_at(graph: &Graph, a: u32, b: u32) -> f64
+    requires { (a < graph.now.n) × (b < graph.now.n) }
+    ensures { result ≡ cross2 (point_at (rows 2 graph.now.n graph.now.points.now) a)
+        (point_at (rows 2 graph.now.n graph.now.points.now) b) }
 {
-    let p = vector::coord2(points, wide(a));
-    let q = vector::coord2(points, wide(b));
-    p.x * q.y - q.x * p.y
+    let p = graph.point(a);
+    let q = graph.point(b);
+    p[0] * q[1] - q[0] * p[1]
 }
 
 // Writes the nodes of a loop from `at` on, reversed as a whole if asked.
@@ -360,35 +263,9 @@ fn put_loop(nodes: &[u32], reversed: bool, out: &mut [u32], at: usize)
     ensures { out.new ≡ paste out.old at
         (cond reversed (reverse nodes.now) nodes.now) (length nodes.now) }
 {
+    let part = &mut out[at..at + nodes.len()];
+    part.copy_from_slice(nodes);
     if reversed {
-        put_reversed(nodes, out, at);
-    } else {
-        put_nodes(nodes, out, at);
-    }
-}
-
-// Writes nodes in their order.
-fn put_nodes(nodes: &[u32], out: &mut [u32], at: usize)
-    requires { at + length nodes.now ≤ length out.old }
-    ensures { out.new ≡ paste out.old at nodes.now
-        (length nodes.now) }
-{
-    let mut j = 0;
-    while j < nodes.len() {
-        out[at + j] = nodes[j];
-        j += 1;
-    }
-}
-
-// Writes nodes from the last to the first.
-fn put_reversed(nodes: &[u32], out: &mut [u32], at: usize)
-    requires { at + length nodes.now ≤ length out.old }
-    ensures { out.new ≡ paste out.old at (reverse nodes.now)
-        (length nodes.now) }
-{
-    let mut k = 0;
-    while k < nodes.len() {
-        out[at + k] = nodes[nodes.len() - 1 - k];
-        k += 1;
+        part.reverse();
     }
 }

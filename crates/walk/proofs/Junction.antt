@@ -7,9 +7,9 @@ use Prim.Native.Nat.{ℕ, suc, ◌+◌, ◌<◌}
 use native.Mathlib.Omega.{arith}
 use lib.Ieee.{Float, lt}
 use lib.ListN.{length, get_or}
+use Rattle.std.specs.Prelude.{None, Some}
 use Rattle.vector.specs.Vector.{Vector}
-use Rattle.weld.specs.Weld.{Edge}
-use Rattle.walk.specs.declared.Next.TheVariants as next
+use Rattle.weld.specs.declared.Edge.{Edge}
 use Rattle.walk.specs.Walk.{edge_at, touches, available, cosine_at, straightest, choose, next_edge}
 use Rattle.walk.specs.Walk.{All}
 use Rattle.walk.proofs.Lists.{all_map}
@@ -61,7 +61,7 @@ straightest_all P f k v (j ∷ l) h r =
     by_test true = r.0
     by_test false = h
 
-choose_all : (P : ℕ → Type 0) (f : ℕ → Float) (l : List ℕ) → All P l → (k : ℕ) → choose f l ≡ next.Edge k → P k
+choose_all : (P : ℕ → Type 0) (f : ℕ → Float) (l : List ℕ) → All P l → (k : ℕ) → choose f l ≡ Some k → P k
 unfolding choose
 choose_all P f [] r k e = let z : ◌≡◌ {A = ℕ} 0 1 = cc in absurd (omega arith)
 choose_all P f (j ∷ []) r k e = let q : j ≡ k = cc in subst P q r.0
@@ -70,18 +70,18 @@ choose_all P f (j ∷ i ∷ l) r k e =
     subst P q (straightest_all P f j (f j) (i ∷ l) r.0 r.1)
 
 module _ (ps : List Vector) (es : List Edge) (us : List Bool) (p c : ℕ) where
-  pub next_free : (k : ℕ) → next_edge ps es us p c ≡ next.Edge k → Free c es us k
+  pub next_free : (k : ℕ) → next_edge ps es us p c ≡ Some k → Free c es us k
   unfolding next_edge
   next_free k e =
       let f = choose_all (FreeFrom c es us 0) (cosine_at ps es p c) (available c es us 0) (available_free c es us 0) k e in
       let q : k ≡ f.at = omega (arith, f.is) in
       rw q f.at_free
 
-  pub next_stuck : next_edge ps es us p c ≡ next.Nothing → available c es us 0 ≡ []
+  pub next_stuck : next_edge ps es us p c ≡ None → available c es us 0 ≡ []
   unfolding next_edge choose
   next_stuck = by_list (available c es us 0)
     where
-      by_list : (l : List ℕ) → choose (cosine_at ps es p c) l ≡ next.Nothing → l ≡ []
+      by_list : (l : List ℕ) → choose (cosine_at ps es p c) l ≡ None → l ≡ []
       by_list [] h = refl
       by_list (k ∷ []) h = let z : ◌≡◌ {A = ℕ} 0 1 = cc in absurd (omega arith)
       by_list (k ∷ j ∷ l) h = let z : ◌≡◌ {A = ℕ} 0 1 = cc in absurd (omega arith)

@@ -1,7 +1,7 @@
 pub mod Lists
 pub mod Marks
 pub mod Junction
-pub mod Buffers
-pub mod Lasts
+pub mod Ends
+pub mod Past
 pub mod Scan
 pub mod Walking

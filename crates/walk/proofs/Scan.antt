@@ -1,25 +1,20 @@
 -- The scan of the edges at a point in listed order, and the straightest of those found. Assumes nothing.
 use mathlib.Core.Path.{◌≡◌, refl, ap, sym, ◌∙◌}
 use mathlib.Core.List.{List, [], ◌∷◌}
-use mathlib.Core.Bool.{Bool, true, false, cond, not, ◌&&◌, ◌||◌}
-use Prim.Native.Nat.{ℕ, suc, ◌+◌, ◌≤◌, ◌<◌}
+use mathlib.Core.Bool.{Bool, true, false, cond, not, ◌&&◌}
+use Prim.Native.Nat.{ℕ, suc, ◌+◌, ◌-◌, ◌≤◌, ◌<◌}
 use native.Mathlib.Numerals.{add-one}
 use native.Mathlib.Omega.{arith}
-use lib.Dec.{eqb}
 use lib.Ieee.{Float, lt}
 use lib.ListN.{length, get_or, drop, length-drop}
 use lib.Seq.{drop-cons, get_or-drop}
-use borrow.Author.Tests.{lt-ltb, le-ltb}
+use Rattle.std.specs.Prelude.{Option, None, Some, IfSome, unwrap_or}
 use Rattle.vector.specs.Vector.{Vector, diff, norm}
-use Rattle.vector.specs.View.{vec2}
-use Rattle.weld.specs.Weld.{Edge}
-use Rattle.weld.specs.Code.{edges_of}
-use Rattle.weld.proofs.Lists.{edges_length, edges_get_d}
-use Rattle.walk.specs.declared.Next.TheVariants as next
+use Rattle.weld.specs.declared.Edge.{Edge}
 use Rattle.walk.specs.declared.Arrival.{Arrival}
 use Rattle.walk.specs.declared.Best.{Best}
 use Rattle.walk.specs.Walk.{point_at, edge_at, no_edge, touches, other, available, cosine_to, straightest, choose, next_edge, cosine_at}
-use Rattle.walk.specs.Code.{FirstFrom, Past, Arrived, cosine_for, better, ahead}
+use Rattle.walk.specs.Code.{FirstFrom, Arrived, cosine_for, better, ahead}
 
 none_touching : (c : ℕ) (es : List Edge) (us : List Bool) (k : ℕ) → ((i : ℕ) → i < length es → touches c (get_or es i no_edge) ≡ false)
     → available c es us k ≡ []
@@ -34,51 +29,42 @@ none_touching c (e ∷ es) (u ∷ us) k h =
     neither false = refl
 
 -- the edges that are left at j, after none was found from k on
-abbrev pub Left : ℕ → List ℕ → List ℕ → List Bool → ℕ → ℕ → Type 0
-Left c xs ys us k j =
-    available c (drop k (edges_of xs ys)) (drop k us) k ≡ available c (drop j (edges_of xs ys)) (drop j us) j
+abbrev pub Left : ℕ → List Edge → List Bool → ℕ → ℕ → Type 0
+Left c es us k j = available c (drop k es) (drop k us) k ≡ available c (drop j es) (drop j us) j
 
-module _ (c : ℕ) (xs ys : List ℕ) (us : List Bool) (k j : ℕ) (same : length xs ≡ length ys) (marks : length us ≡ length xs)
-    (from : k ≤ j) (left : Left c xs ys us k j) where
-  es : List Edge
-  es = edges_of xs ys
-
-  count : length (edges_of xs ys) ≡ length xs
-  count = edges_length xs ys same
-
-  module _ (h : j < length xs) (t : Bool) (is : t ≡ not (get_or us j false) && (eqb (get_or xs j 0) c || eqb (get_or ys j 0) c)) where
-    step : available c (drop j (edges_of xs ys)) (drop j us) j
-        ≡ cond t (j ∷ available c (drop (j + 1) (edges_of xs ys)) (drop (j + 1) us) (j + 1))
-        (available c (drop (j + 1) (edges_of xs ys)) (drop (j + 1) us) (j + 1))
+module _ (c : ℕ) (es : List Edge) (us : List Bool) (k j : ℕ) (left : Left c es us k j) where
+  module _ (marks : length us ≡ length es) (h : j < length es) (t : Bool)
+      (is : t ≡ not (get_or us j false) && touches c (get_or es j no_edge)) where
+    step : available c (drop j es) (drop j us) j
+        ≡ cond t (j ∷ available c (drop (j + 1) es) (drop (j + 1) us) (j + 1)) (available c (drop (j + 1) es) (drop (j + 1) us) (j + 1))
     unfolding available
-    step =
-        let n = count in
-        rw (add-one, drop-cons (edges_of xs ys) j no_edge (omega arith), drop-cons us j false (omega arith), edges_get_d xs ys j same, ← is)
+    step = rw (add-one, drop-cons es j no_edge h, drop-cons us j false (omega arith), ← is)
 
-    pub first_skip : t ≡ false → Left c xs ys us k (j + 1)
+    pub first_skip : t ≡ false → Left c es us k (j + 1)
     first_skip e = left ∙ step ∙ rw e
 
-    pub first_hit : t ≡ true → FirstFrom c (edges_of xs ys) us k j
-    first_hit e =
-        let n = count in
-        let l : j < length (edges_of xs ys) = omega arith in
-        record { from = from; inside = omega arith; is = left ∙ step ∙ rw (e, lt-ltb j (length (edges_of xs ys)) l) }
+    pub first_hit : k ≤ j → t ≡ true → FirstFrom c es us k (Some j)
+    first_hit from e = record { inside = (from, h); is = left ∙ step ∙ rw e }
 
-  -- past `end` there is none
-  pub first_none : (end : ℕ) → Past c (edges_of xs ys) end → end ≤ j → j ≤ length xs → FirstFrom c (edges_of xs ys) us k (length xs)
-  first_none end past h m =
-      let n = count in
-      let l : length (edges_of xs ys) ≤ length xs = omega arith in
+  -- from `end` on there is none
+  pub first_none : (end : ℕ) → ((i : ℕ) → end ≤ i → i < length es → touches c (edge_at es i) ≡ false) → end ≤ j → FirstFrom c es us k None
+  first_none end none h =
       record {
-        from = omega arith;
-        inside = omega arith;
+        inside = tt;
         is =
             left
-            ∙ none_touching c (drop j (edges_of xs ys)) (drop j us) j
-            (λ i g. ap (touches c) (get_or-drop j (edges_of xs ys) i no_edge)
-            ∙ past (j + i) (omega arith) (omega (arith, length-drop j (edges_of xs ys))))
-            ∙ rw (le-ltb (length xs) (length (edges_of xs ys)) l);
+            ∙ none_touching c (drop j es) (drop j us) j
+            (λ i g. ap (touches c) (get_or-drop j es i no_edge) ∙ none (j + i) (omega arith) (omega (arith, length-drop j es)));
       }
+
+-- each edge that is found is a later one
+pub found_in : (n k : ℕ) (r : Option ℕ) → IfSome r (λ j. (k ≤ j) × (j < n)) → IfSome r (λ j. j < n)
+found_in n k None i = tt
+found_in n k (Some j) i = i.1
+
+pub fewer_left : (n k : ℕ) (r : Option ℕ) → k < n → IfSome r (λ j. (k + 1 ≤ j) × (j < n)) → n - unwrap_or r n < n - k
+fewer_left n k None h i = omega arith
+fewer_left n k (Some j) h i = omega (arith, i.0, i.1)
 
 -- ---- the straightest
 
@@ -104,22 +90,12 @@ pub straightest_end : (f : ℕ → Float) (k : ℕ) (v : Float) → straightest 
 unfolding straightest
 straightest_end f k v = refl
 
-pub ahead_here : (c : ℕ) (es : List Edge) (us : List Bool) (k : ℕ) → k < length es
-    → ahead c es us k ≡ k ∷ available c (drop (k + 1) es) (drop (k + 1) us) (k + 1)
-ahead_here c es us k h = rw (lt-ltb k (length es) h)
-
-pub ahead_none : (c : ℕ) (es : List Edge) (us : List Bool) (k : ℕ) → length es ≤ k → ahead c es us k ≡ []
-ahead_none c es us k h = rw (le-ltb k (length es) h)
-
--- one edge more: T is what the whole scan gives
-pub seek_step : (f : ℕ → Float) (c : ℕ) (es : List Edge) (us : List Bool) (T k r : ℕ) (b b' : Best) (v : Float)
-    → T ≡ straightest f b.edge b.cosine (ahead c es us k) → k < length es → v ≡ f k → b' ≡ better b k v → FirstFrom c es us (k + 1) r
-    → T ≡ straightest f b'.edge b'.cosine (ahead c es us r)
-seek_step f c es us T k r b b' v e h ev eb g =
-    e
-    ∙ ap (straightest f b.edge b.cosine) (ahead_here c es us k h)
-    ∙ straightest_step f b k v (available c (drop (k + 1) es) (drop (k + 1) us) (k + 1)) ev
-    ∙ rw (eb, ← g.is)
+-- one edge more
+pub seek_step : (f : ℕ → Float) (c : ℕ) (es : List Edge) (us : List Bool) (k : ℕ) (r : Option ℕ) (b b' : Best) (v : Float)
+    → v ≡ f k → b' ≡ better b k v → FirstFrom c es us (k + 1) r
+    → straightest f b.edge b.cosine (ahead c es us (Some k)) ≡ straightest f b'.edge b'.cosine (ahead c es us r)
+seek_step f c es us k r b b' v ev eb g =
+    straightest_step f b k v (available c (drop (k + 1) es) (drop (k + 1) us) (k + 1)) ev ∙ rw (eb, ← g.is)
 
 -- two ways to work out cosines that agree
 straightest_same : (f g : ℕ → Float) → ((k : ℕ) → f k ≡ g k) → (k : ℕ) (v : Float) (l : List ℕ) → straightest f k v l ≡ straightest g k v l
@@ -134,39 +110,33 @@ arrived_cosine : (ps : List Vector) (es : List Edge) (p c : ℕ) (a : Arrival) �
     → cosine_for a ps es k ≡ cosine_at ps es p c k
 arrived_cosine ps es p c a g k =
     let d = diff (point_at ps c) (point_at ps p) in
-    ap (λ (i : ℕ). cosine_to (vec2 a.incoming) a.norm (vec2 a.at) (point_at ps (other i (edge_at es k)))) g.node
-    ∙ ap (λ (v : Vector). cosine_to (vec2 a.incoming) a.norm v (point_at ps (other c (edge_at es k)))) g.place
-    ∙ ap (λ (x : Float). cosine_to (vec2 a.incoming) x (point_at ps c) (point_at ps (other c (edge_at es k)))) g.long
+    ap (λ (i : ℕ). cosine_to a.incoming a.norm a.at (point_at ps (other i (edge_at es k)))) g.node
+    ∙ ap (λ (v : Vector). cosine_to a.incoming a.norm v (point_at ps (other c (edge_at es k)))) g.place
+    ∙ ap (λ (x : Float). cosine_to a.incoming x (point_at ps c) (point_at ps (other c (edge_at es k)))) g.long
     ∙ ap (λ (v : Vector). cosine_to v (norm v) (point_at ps c) (point_at ps (other c (edge_at es k)))) g.step
 
 -- ---- the choice
-module _ (ps : List Vector) (es : List Edge) (us : List Bool) (p c : ℕ) (first : ℕ) (f : FirstFrom c es us 0 first) where
-  pub next_none : first ≡ length es → next.Nothing ≡ next_edge ps es us p c
+module _ (ps : List Vector) (es : List Edge) (us : List Bool) (p c : ℕ) where
+  pub next_none : FirstFrom c es us 0 None → None ≡ next_edge ps es us p c
   unfolding next_edge choose
-  next_none e = sym (ap (choose (cosine_at ps es p c)) (f.is ∙ ahead_none c es us first (omega arith)))
+  next_none f = sym (ap (choose (cosine_at ps es p c)) f.is)
 
-  module _ (second : ℕ) (inside : first < length es) (s : FirstFrom c es us (first + 1) second) where
-    all : available c es us 0 ≡ first ∷ ahead c es us second
-    all = f.is ∙ ahead_here c es us first inside ∙ ap {B = List ℕ} (λ l. first ∷ l) s.is
-
-    pub next_one : second ≡ length es → next.Edge first ≡ next_edge ps es us p c
+  module _ (first : ℕ) (f : FirstFrom c es us 0 (Some first)) where
+    pub next_one : FirstFrom c es us (first + 1) None → Some first ≡ next_edge ps es us p c
     unfolding next_edge choose
-    next_one e =
-        sym (ap (choose (cosine_at ps es p c)) (all ∙ ap {B = List ℕ} (λ l. first ∷ l) (ahead_none c es us second (omega arith))))
+    next_one s = sym (ap (choose (cosine_at ps es p c)) (f.is ∙ ap {B = List ℕ} (λ l. first ∷ l) s.is))
 
-    pub next_many : (a : Arrival) (r : ℕ) → second < length es → Arrived ps p c a
-        → r ≡ straightest (cosine_for a ps es) first (cosine_for a ps es first) (ahead a.node es us second)
-        → next.Edge r ≡ next_edge ps es us p c
+    pub next_many : (second : ℕ) (a : Arrival) (r : ℕ) → FirstFrom c es us (first + 1) (Some second) → Arrived ps p c a
+        → r ≡ straightest (cosine_for a ps es) first (cosine_for a ps es first) (ahead a.node es us (Some second))
+        → Some r ≡ next_edge ps es us p c
     unfolding next_edge choose
-    next_many a r h g e =
+    next_many second a r s g e =
         let l = available c (drop (second + 1) es) (drop (second + 1) us) (second + 1) in
-        let whole : first ∷ ahead c es us second ≡ first ∷ second ∷ l = ap {B = List ℕ} (λ x. first ∷ x) (ahead_here c es us second h) in
         let f' = cosine_for a ps es in
         let g' = cosine_at ps es p c in
-        ap next.Edge
+        ap (λ (k : ℕ). Some k)
         (e
-        ∙ ap (λ (i : ℕ). straightest f' first (f' first) (ahead i es us second)) g.node
-        ∙ ap (straightest f' first (f' first)) (ahead_here c es us second h)
+        ∙ ap (λ (i : ℕ). straightest f' first (f' first) (ahead i es us (Some second))) g.node
         ∙ straightest_same f' g' (arrived_cosine ps es p c a g) first (f' first) (second ∷ l)
         ∙ ap (λ (v : Float). straightest g' first v (second ∷ l)) (arrived_cosine ps es p c a g first))
-        ∙ sym (ap (choose g') (all ∙ whole))
+        ∙ sym (ap (choose g') (f.is ∙ ap {B = List ℕ} (λ x. first ∷ x) s.is))

@@ -1,7 +1,7 @@
 -- The loop of a walk: what is behind and what remains, and that a turn keeps it. Assumes nothing.
 use mathlib.Core.Path.{◌≡◌, refl, sym, ◌∙◌}
 use mathlib.Core.List.{List, [], ◌∷◌, ◌++◌, append_assoc, append-nil}
-use mathlib.Core.Bool.{Bool, true, false, cond}
+use mathlib.Core.Bool.{Bool, true, false}
 use Prim.Native.Nat.{ℕ, suc, ◌+◌, ◌-◌, ◌≤◌, ◌<◌}
 use native.Mathlib.Numerals.{add-one}
 use native.Mathlib.Omega.{arith}
@@ -10,18 +10,16 @@ use lib.ListN.{length, get_or, set, take, length-append, length-set}
 use lib.Seq.{take-suc-set, length-take-le}
 use lib.Ieee.{Float}
 use borrow.Author.Tests.{eq-eqb, ne_eqb}
+use Rattle.std.specs.Prelude.{Option, None, Some}
 use Rattle.vector.specs.Vector.{Vector}
 use Rattle.vector.specs.Rows.{rows}
-use Rattle.weld.specs.Weld.{Edge}
-use Rattle.weld.specs.Code.{edges_of}
-use Rattle.weld.proofs.Lists.{edges_length, edges_get_d}
-use Rattle.walk.specs.declared.Next.{Next}
-use Rattle.walk.specs.declared.Next.TheVariants as next
+use Rattle.weld.specs.declared.Edge.{Edge}
+use Rattle.weld.specs.Weld.{Within}
 use Rattle.walk.specs.Walk.{edge_at, other, next_edge, Walk, onward, rest, walk_from}
-use Rattle.walk.specs.Code.{unused, Graph, Marked, Went}
+use Rattle.walk.specs.Code.{unused, Went}
 use Rattle.walk.proofs.Marks.{unused_le, unused_set}
 use Rattle.walk.proofs.Junction.{Free, next_free}
-use Rattle.walk.proofs.Buffers.{end_below}
+use Rattle.walk.proofs.Ends.{end_below}
 
 -- of the walk w, n nodes are behind, in a buffer, and v remains
 pub record Along (w v : Walk) (n : ℕ) (buffer : List ℕ) : Type 0 where
@@ -39,18 +37,18 @@ along_onward w v v' c k n ns a e h =
     }
 
 module _ (ps : List Vector) (es : List Edge) where
-  rest_step : (d : ℕ) (b : Bool) (choice : Next) (s c k c' : ℕ) (us : List Bool) → b ≡ false → choice ≡ next.Edge k
+  rest_step : (d : ℕ) (b : Bool) (choice : Option ℕ) (s c k c' : ℕ) (us : List Bool) → b ≡ false → choice ≡ Some k
       → c' ≡ other c (edge_at es k)
       → rest ps es (suc d) b choice s c us ≡ onward c k (rest ps es d (eqb c' s) (next_edge ps es (set us k true) c c') s c' (set us k true))
   unfolding rest
   rest_step d b choice s c k c' us eb en ec = rw (eb, en, ec)
 
-  rest_open : (d : ℕ) (b : Bool) (choice : Next) (s c : ℕ) (us : List Bool) → b ≡ false → choice ≡ next.Nothing
+  rest_open : (d : ℕ) (b : Bool) (choice : Option ℕ) (s c : ℕ) (us : List Bool) → b ≡ false → choice ≡ None
       → rest ps es (suc d) b choice s c us ≡ record { nodes = c ∷ []; edges = []; closed = false; used = us }
   unfolding rest
   rest_open d b choice s c us eb en = rw (eb, en)
 
-  rest_closed : (d : ℕ) (b : Bool) (choice : Next) (s c : ℕ) (us : List Bool) → b ≡ true
+  rest_closed : (d : ℕ) (b : Bool) (choice : Option ℕ) (s c : ℕ) (us : List Bool) → b ≡ true
       → rest ps es (suc d) b choice s c us ≡ record { nodes = []; edges = []; closed = true; used = us }
   unfolding rest
   rest_closed d b choice s c us eb = rw eb
@@ -71,7 +69,7 @@ module _ (ps : List Vector) (es : List Edge) where
     fuel : suc (length es) - n ≡ suc (length es - n)
     fuel = omega arith
 
-    along_step : (k c' : ℕ) → eqb c s ≡ false → next_edge ps es us p c ≡ next.Edge k → c' ≡ other c (edge_at es k) → n < length ns
+    along_step : (k c' : ℕ) → eqb c s ≡ false → next_edge ps es us p c ≡ Some k → c' ≡ other c (edge_at es k) → n < length ns
         → Along w (remaining (n + 1) s c c' (set us k true)) (n + 1) (set ns n c)
     along_step k c' eb en ec h =
         let q : suc (length es) - (n + 1) ≡ length es - n = omega arith in
@@ -79,7 +77,7 @@ module _ (ps : List Vector) (es : List Edge) where
         (along_onward w (remaining n s p c us) _ c k n ns a
         (rw fuel (rest_step (length es - n) (eqb c s) (next_edge ps es us p c) s c k c' us eb en ec)) h)
 
-    along_open : eqb c s ≡ false → next_edge ps es us p c ≡ next.Nothing → n < length ns → Went w (n + 1) false us (set ns n c)
+    along_open : eqb c s ≡ false → next_edge ps es us p c ≡ None → n < length ns → Went w (n + 1) false us (set ns n c)
     along_open eb en h =
         let e : remaining n s p c us ≡ record { nodes = c ∷ []; edges = []; closed = false; used = us } =
         rw fuel (rest_open (length es - n) (eqb c s) (next_edge ps es us p c) s c us eb en) in
@@ -106,79 +104,76 @@ module _ (ps : List Vector) (es : List Edge) where
         }
 
 -- ---- in the words of the code: the loop's invariant, of the walk w from s, m nodes into its buffer
-pub record Going (n : ℕ) (zs : List Float) (xs ys : List ℕ) (s : ℕ) (w : Walk) (room : ℕ) (us : List Bool) (ns : List ℕ) (m p c : ℕ) : Type
+pub record Going (n : ℕ) (zs : List Float) (es : List Edge) (s : ℕ) (w : Walk) (room : ℕ) (us : List Bool) (ns : List ℕ) (m p c : ℕ) : Type
     0 where
-  pub marks : length us ≡ length xs
+  pub marks : length us ≡ length es
   pub nodes : length ns ≡ room
-  pub left : unused us + m ≤ length xs
+  pub fits : length es < room
+  pub left : unused us + m ≤ length es
   pub p_in : p < n
   pub c_in : c < n
-  pub along : Along w (remaining (rows 2 n zs) (edges_of xs ys) m s p c us) m ns
+  pub along : Along w (remaining (rows 2 n zs) es m s p c us) m ns
 
 -- what has been walked is said of an equal walk
 pub went_as : {w w' : Walk} {n : ℕ} {c : Bool} {us : List Bool} {ns : List ℕ} → w ≡ w' → Went w' n c us ns → Went w n c us ns
 went_as q h = rw q h
 
 -- the walk from edge k is the whole that leaves its smaller point
-pub walk_is : (ps : List Vector) (xs ys : List ℕ) (k : ℕ) (us : List Bool) → length xs ≡ length ys
-    → walk_from ps (edges_of xs ys) k us ≡ whole ps (edges_of xs ys) (get_or xs k 0) k (get_or ys k 0) (set us k true)
-walk_is ps xs ys k us e =
-    let q : suc (length (edges_of xs ys)) - 1 ≡ length (edges_of xs ys) = omega arith in
-    rw (edges_get_d xs ys k e, q)
+pub walk_is : (ps : List Vector) (es : List Edge) (k : ℕ) (us : List Bool)
+    → walk_from ps es k us ≡ whole ps es (edge_at es k).smaller k (edge_at es k).larger (set us k true)
+walk_is ps es k us = let q : suc (length es) - 1 ≡ length es = omega arith in rw q
 
-pub going_start : (n : ℕ) (zs : List Float) (xs ys : List ℕ) (us : List Bool) (ns : List ℕ) (k : ℕ) → Marked n zs xs ys us → k < length xs
-    → length xs < length ns → get_or us k true ≡ false
-    → Going n zs xs ys (get_or xs k 0) (whole (rows 2 n zs) (edges_of xs ys) (get_or xs k 0) k (get_or ys k 0) (set us k true))
-    (length (set ns 0 (get_or xs k 0))) (set us k true) (set ns 0 (get_or xs k 0)) 1 (get_or xs k 0) (get_or ys k 0)
-going_start n zs xs ys us ns k r h l f =
+pub going_start : (n : ℕ) (zs : List Float) (es : List Edge) (us : List Bool) (ns : List ℕ) (k : ℕ) → Within es n
+    → length us ≡ length es → k < length es → length es < length ns → get_or us k true ≡ false
+    → let s = (edge_at es k).smaller in
+    let c = (edge_at es k).larger in
+    Going n zs es s (whole (rows 2 n zs) es s k c (set us k true)) (length (set ns 0 s)) (set us k true) (set ns 0 s) 1 s c
+going_start n zs es us ns k r q h l f =
     record {
-      marks = length-set us k true ∙ r.marks;
+      marks = length-set us k true ∙ q;
       nodes = refl;
-      left = let a = unused_set us k f in let b = unused_le us in let q = r.marks in omega arith;
-      p_in = (r.graph.within k h).0;
-      c_in = (r.graph.within k h).1;
-      along = along_start (rows 2 n zs) (edges_of xs ys) k (get_or xs k 0) (get_or ys k 0) (set us k true) ns (omega arith);
+      fits = rw length-set l;
+      left = let a = unused_set us k f in let b = unused_le us in omega arith;
+      p_in = (r k h).0;
+      c_in = (r k h).1;
+      along = along_start (rows 2 n zs) es k (edge_at es k).smaller (edge_at es k).larger (set us k true) ns (omega arith);
     }
 
-module _ {n : ℕ} {zs : List Float} {xs ys : List ℕ} {s : ℕ} {w : Walk} {room : ℕ} {us : List Bool} {ns : List ℕ} {m p c : ℕ}
-    (g : Going n zs xs ys s w room us ns m p c) (graph : Graph n zs xs ys) (fits : length xs < room) where
-  size : m ≤ length (edges_of xs ys)
-  size = let l = edges_length xs ys graph.same in let q = g.left in omega arith
+module _ {n : ℕ} {zs : List Float} {es : List Edge} {s : ℕ} {w : Walk} {room : ℕ} {us : List Bool} {ns : List ℕ} {m p c : ℕ}
+    (g : Going n zs es s w room us ns m p c) (within : Within es n) where
+  size : m ≤ length es
+  size = let q = g.left in omega arith
 
   pub in_buffer : m < length ns
-  in_buffer = let q = g.left in let v = g.nodes in omega arith
+  in_buffer = let q = g.left in let v = g.nodes in let f = g.fits in omega arith
 
-  pub marked : Marked n zs xs ys us
-  marked = record { graph = graph; marks = g.marks }
+  module _ {k : ℕ} (e : next_edge (rows 2 n zs) es us p c ≡ Some k) where
+    free : Free c es us k
+    free = next_free (rows 2 n zs) es us p c k e
 
-  module _ {k : ℕ} (e : next_edge (rows 2 n zs) (edges_of xs ys) us p c ≡ next.Edge k) where
-    free : Free c (edges_of xs ys) us k
-    free = next_free (rows 2 n zs) (edges_of xs ys) us p c k e
-
-    pub free_in : k < length xs
-    free_in = let l = edges_length xs ys graph.same in omega (arith, free.inside)
+    pub free_in : k < length es
+    free_in = free.inside
 
     pub fewer : unused (set us k true) < unused us
     fewer = let a = unused_set us k free.free in omega arith
 
-    pub going_step : {c' : ℕ} → (c ≡ s → ⊥) → c' ≡ cond (eqb (get_or xs k 0) c) (get_or ys k 0) (get_or xs k 0)
-        → Going n zs xs ys s w room (set us k true) (set ns m c) (m + 1) c c'
+    pub going_step : {c' : ℕ} → (c ≡ s → ⊥) → c' ≡ other c (edge_at es k)
+        → Going n zs es s w room (set us k true) (set ns m c) (m + 1) c c'
     going_step {c'} d v =
-        let i = graph.within k free_in in
+        let i = within k free_in in
+        let b = end_below c n (edge_at es k) i.0 i.1 in
         record {
           marks = length-set us k true ∙ g.marks;
           nodes = length-set ns m c ∙ g.nodes;
+          fits = g.fits;
           left = let a = unused_set us k free.free in let q = g.left in omega arith;
           p_in = g.c_in;
-          c_in = end_below (eqb (get_or xs k 0) c) (get_or xs k 0) (get_or ys k 0) c' n v i.0 i.1;
-          along =
-              along_step (rows 2 n zs) (edges_of xs ys) w m s p c us ns g.along size k c' (ne_eqb c s d) e
-              (rw (edges_get_d xs ys k graph.same) v) in_buffer;
+          c_in = omega arith;
+          along = along_step (rows 2 n zs) es w m s p c us ns g.along size k c' (ne_eqb c s d) e v in_buffer;
         }
 
-  pub going_open : (c ≡ s → ⊥) → next_edge (rows 2 n zs) (edges_of xs ys) us p c ≡ next.Nothing → Went w (m + 1) false us (set ns m c)
-  going_open d e = along_open (rows 2 n zs) (edges_of xs ys) w m s p c us ns g.along size (ne_eqb c s d) e in_buffer
+  pub going_open : (c ≡ s → ⊥) → next_edge (rows 2 n zs) es us p c ≡ None → Went w (m + 1) false us (set ns m c)
+  going_open d e = along_open (rows 2 n zs) es w m s p c us ns g.along size (ne_eqb c s d) e in_buffer
 
   pub going_closed : c ≡ s → Went w m true us ns
-  going_closed d =
-      along_closed (rows 2 n zs) (edges_of xs ys) w m s p c us ns g.along size (eq-eqb c s d) (let q = in_buffer in omega arith)
+  going_closed d = along_closed (rows 2 n zs) es w m s p c us ns g.along size (eq-eqb c s d) (let q = in_buffer in omega arith)

@@ -1,13 +1,12 @@
 -- The junction and the walk of docs/RULES.md, over welded points and listed edges. Definitions only.
-use Rattle.std.specs.Prelude.{List, [], ◌∷◌, Bool, true, false, not, ◌&&◌, ◌||◌, cond, ℕ, zero, suc, eqb, length, get_or, set, replicate, Float}
+use Rattle.std.specs.Prelude.{List, [], ◌∷◌, Bool, true, false, not, ◌&&◌, ◌||◌, cond, Option, None, Some, ℕ, zero, suc, eqb, length, get_or, set, replicate, Float}
 use Rattle.std.specs.Float.{binary64}
 use Rattle.std.specs.Float.Ieee.{sub, mul, div, lt}
 use Rattle.root.specs.Root.{sqrt_of}
 use Rattle.vector.specs.Number.{f1, minus_one}
 use Rattle.vector.specs.Vector.{Vector, dot_from, dot, diff, norm}
-use Rattle.weld.specs.Weld.{Edge, edge, lo, hi}
-use Rattle.walk.specs.declared.Next.{Next}
-use Rattle.walk.specs.declared.Next.TheVariants as next
+use Rattle.weld.specs.declared.Edge.{Edge}
+use Rattle.weld.specs.Weld.{edge}
 
 -- what stands for a point or an edge past the end of a list
 abbrev pub no_point : Vector
@@ -32,11 +31,11 @@ All P (x ∷ l) = P x × All P l
 
 -- whether an edge ends at the point c
 abbrev pub touches : ℕ → Edge → Bool
-touches c (edge a b) = eqb a c || eqb b c
+touches c e = eqb e.smaller c || eqb e.larger c
 
 -- the other end of an edge at c
 abbrev pub other : ℕ → Edge → ℕ
-other c (edge a b) = cond (eqb a c) b a
+other c e = cond (eqb e.smaller c) e.larger e.smaller
 
 -- the numbers of the unused edges at c, in listed order; the first of es is number k
 unfoldable pub available : ℕ → List Edge → List Bool → ℕ → List ℕ
@@ -71,14 +70,14 @@ straightest f k v [] = k
 straightest f k v (j ∷ js) = let w = f j in let t = lt v w in straightest f (cond t j k) (cond t w v) js
 
 -- no edge, the only one, or the straightest
-unfoldable pub choose : (ℕ → Float) → List ℕ → Next
+unfoldable pub choose : (ℕ → Float) → List ℕ → Option ℕ
 unfolding straightest
-choose f [] = next.Nothing
-choose f (k ∷ []) = next.Edge k
-choose f (k ∷ j ∷ js) = next.Edge (straightest f k (f k) (j ∷ js))
+choose f [] = None
+choose f (k ∷ []) = Some k
+choose f (k ∷ j ∷ js) = Some (straightest f k (f k) (j ∷ js))
 
 -- the choice at the point c, reached from p
-unfoldable pub next_edge : List Vector → List Edge → List Bool → ℕ → ℕ → Next
+unfoldable pub next_edge : List Vector → List Edge → List Bool → ℕ → ℕ → Option ℕ
 unfolding choose available cosine_to
 next_edge ps es used p c = choose (cosine_at ps es p c) (available c es used 0)
 
@@ -99,12 +98,12 @@ onward c k w = record { nodes = c ∷ w.nodes; edges = k ∷ w.edges; closed = w
 -- The rest of a walk that started at s, from the point c on: back tells whether c is s, and choice what the junction at c gives.
 -- An open walk ends where the choice is nothing. The first number bounds the steps; it is never used up, since each step uses an edge
 -- (`rest_from` in crates/stitch/proofs/Joined.antt).
-unfoldable pub rest : List Vector → List Edge → ℕ → Bool → Next → ℕ → ℕ → List Bool → Walk
+unfoldable pub rest : List Vector → List Edge → ℕ → Bool → Option ℕ → ℕ → ℕ → List Bool → Walk
 unfolding next_edge
 rest ps es zero back choice s c used = record { nodes = []; edges = []; closed = back; used = used }
 rest ps es (suc d) true choice s c used = record { nodes = []; edges = []; closed = true; used = used }
-rest ps es (suc d) false next.Nothing s c used = record { nodes = c ∷ []; edges = []; closed = false; used = used }
-rest ps es (suc d) false (next.Edge k) s c used =
+rest ps es (suc d) false None s c used = record { nodes = c ∷ []; edges = []; closed = false; used = used }
+rest ps es (suc d) false (Some k) s c used =
     let c' = other c (edge_at es k) in
     let used' = set used k true in
     onward c k (rest ps es d (eqb c' s) (next_edge ps es used' c c') s c' used')
@@ -112,8 +111,8 @@ rest ps es (suc d) false (next.Edge k) s c used =
 -- the walk from edge k, at its smaller point
 abbrev pub walk_from : List Vector → List Edge → ℕ → List Bool → Walk
 walk_from ps es k used =
-    let s = lo (edge_at es k) in
-    let c = hi (edge_at es k) in
+    let s = (edge_at es k).smaller in
+    let c = (edge_at es k).larger in
     let used' = set used k true in
     onward s k (rest ps es (length es) (eqb c s) (next_edge ps es used' s c) s c used')
 

@@ -6,26 +6,31 @@ use Prim.Native.Nat.{ℕ, zero, suc, ◌+◌, ◌*◌, ◌≤◌, ◌<◌, min, 
 use mathlib.Core.Logic.{◌⊎◌, inl, inr, ⊎_elim}
 use native.Mathlib.Nat.{not-suc-le-zero, eq-or-lt_of_le}
 use native.Mathlib.Omega.{arith}
-use lib.Dec.{eqb, ltb}
-use lib.Ieee.{Float, le}
+use lib.Dec.{eqb}
+use lib.Ieee.{Float}
 use lib.ListN.{length, get_or, length-append}
-use borrow.Author.Tests.{eq-eqb, ne_eqb, eqb-true, eqb-false, ltb-true}
-use Rattle.vector.specs.Vector.{Vector, dist2}
+use borrow.Author.Tests.{eq-eqb, ne_eqb, eqb-true, eqb-false}
+use Rattle.std.specs.Prelude.{Option, None, Some, is_some, unwrap_or}
+use Rattle.std.specs.List.{list_any, position_from}
+use Rattle.vector.specs.Vector.{Vector}
 use Rattle.vector.specs.Rows.{Seg, seg}
-use Rattle.weld.specs.Weld.{Edge, edge, lo, hi, same, between, listed, find, push, points_from, becomes, add_edge, edges_from, welded_points, listed_edges}
+use Rattle.weld.specs.declared.Edge.{Edge}
+use Rattle.weld.specs.Weld.{edge, same, between, listed, near, find, push, place, points_from, becomes, add_edge, edges_from, welded_points, listed_edges}
 use Rattle.weld.specs.Weld.{Simple, Within, Distinct}
 
 -- ---- the same edge
 pub same_eq : (e f : Edge) → same e f ≡ true → e ≡ f
-same_eq (edge a b) (edge c d) h = by_tests (eqb a c) (eqb b d) (eqb-true a c) (eqb-true b d) h
+same_eq e f h =
+    by_tests (eqb e.smaller f.smaller) (eqb e.larger f.larger) (eqb-true e.smaller f.smaller) (eqb-true e.larger f.larger) h
   where
-    by_tests : (s t : Bool) → (s ≡ true → a ≡ c) → (t ≡ true → b ≡ d) → s && t ≡ true → edge a b ≡ edge c d
+    by_tests : (s t : Bool) → (s ≡ true → e.smaller ≡ f.smaller) → (t ≡ true → e.larger ≡ f.larger) → s && t ≡ true
+        → edge e.smaller e.larger ≡ edge f.smaller f.larger
     by_tests true true x y r = rw (x refl, y refl)
-    by_tests true false x y r = let z : ◌≡◌ {A = ℕ} 0 1 = cc in absurd (omega arith)
-    by_tests false t x y r = let z : ◌≡◌ {A = ℕ} 0 1 = cc in absurd (omega arith)
+    by_tests true false x y r = cc
+    by_tests false t x y r = cc
 
 pub same_self : (e : Edge) → same e e ≡ true
-same_self (edge a b) = rw (eq-eqb a a refl, eq-eqb b b refl)
+same_self e = rw (eq-eqb e.smaller e.smaller refl, eq-eqb e.larger e.larger refl)
 
 pub between_sym : (a b : ℕ) → between a b ≡ between b a
 between_sym a b =
@@ -44,6 +49,19 @@ pub listed_snoc : (e f : Edge) (es : List Edge) → listed e (es ++ f ∷ []) �
 unfolding listed
 listed_snoc e f [] = or-false (same e f)
 listed_snoc e f (g ∷ es) = rw (listed_snoc e f es) (sym (or_assoc (same e g) (listed e es) (same e f)))
+
+-- the library's search compares the other way round
+pub any_listed : (e : Edge) (es : List Edge) → list_any (λ f. same f e) es ≡ listed e es
+unfolding listed
+any_listed e [] = refl
+any_listed e (f ∷ es) = rw (eqb_sym f.smaller e.smaller, eqb_sym f.larger e.larger, any_listed e es)
+  where
+    eqb_sym : (a b : ℕ) → eqb a b ≡ eqb b a
+    eqb_sym a b = by_test (eqb a b) (eqb-true a b) (eqb-false a b)
+      where
+        by_test : (t : Bool) → (t ≡ true → a ≡ b) → (t ≡ false → a ≡ b → ⊥) → t ≡ eqb b a
+        by_test true x y = sym (eq-eqb b a (sym (x refl)))
+        by_test false x y = sym (ne_eqb b a (λ h. y refl (sym h)))
 
 -- a property of every place of a list, and of one more
 snoc_at : (P : Edge → Type 0) (es : List Edge) (e : Edge) → ((k : ℕ) → k < length es → P (get_or es k (edge 0 0))) → P e
@@ -113,70 +131,79 @@ module _ (a b : ℕ) (es : List Edge) where
       by_tests false false x = distinct_snoc es (between a b) d (listed_not_at (between a b) x)
 
 -- ---- all edges
-pub edges_simple : (l es : List Edge) → Simple es → Simple (edges_from l es)
+pub edges_simple : (l : List (ℕ × ℕ)) (es : List Edge) → Simple es → Simple (edges_from l es)
 unfolding edges_from
 edges_simple [] es s = s
-edges_simple (edge a b ∷ l) es s = edges_simple l (add_edge a b es) (add_all a b es (λ e. lo e < hi e) s (λ d. apart a b d))
+edges_simple (p ∷ l) es s = edges_simple l (add_edge p.0 p.1 es) (add_all p.0 p.1 es (λ e. e.smaller < e.larger) s (λ d. apart p.0 p.1 d))
   where
     apart : (a b : ℕ) → (a ≡ b → ⊥) → min a b < max a b
     apart a b d = omega (arith, d)
 
-pub edges_distinct : (l es : List Edge) → Distinct es → Distinct (edges_from l es)
+pub edges_distinct : (l : List (ℕ × ℕ)) (es : List Edge) → Distinct es → Distinct (edges_from l es)
 unfolding edges_from
 edges_distinct [] es d = d
-edges_distinct (edge a b ∷ l) es d = edges_distinct l (add_edge a b es) (add_distinct a b es d)
+edges_distinct (p ∷ l) es d = edges_distinct l (add_edge p.0 p.1 es) (add_distinct p.0 p.1 es d)
 
 pub add_within : (a b : ℕ) (es : List Edge) (n : ℕ) → Within es n → a < n → b < n → Within (add_edge a b es) n
-add_within a b es n v x y = add_all a b es (λ e. (lo e < n) × (hi e < n)) v (λ d. (omega arith, omega arith))
+add_within a b es n v x y = add_all a b es (λ e. (e.smaller < n) × (e.larger < n)) v (λ d. (omega arith, omega arith))
 
-edges_within : (l es : List Edge) (n : ℕ) → Within l n → Within es n → Within (edges_from l es) n
+-- each of the pairs is of two of n points
+abbrev Below : List (ℕ × ℕ) → ℕ → Type 0
+Below l n = (k : ℕ) → k < length l → ((get_or l k (0, 0)).0 < n) × ((get_or l k (0, 0)).1 < n)
+
+edges_within : (l : List (ℕ × ℕ)) (es : List Edge) (n : ℕ) → Below l n → Within es n → Within (edges_from l es) n
 unfolding edges_from
 edges_within [] es n w v = v
-edges_within (edge a b ∷ l) es n w v =
+edges_within (p ∷ l) es n w v =
     let o = w 0 (omega arith) in
-    edges_within l (add_edge a b es) n (λ k h. w (suc k) (omega arith)) (add_within a b es n v o.0 o.1)
+    edges_within l (add_edge p.0 p.1 es) n (λ k h. w (suc k) (omega arith)) (add_within p.0 p.1 es n v o.0 o.1)
 
 -- an edge with a newer point than those of the list is not in it
-pub newer_unlisted : (p q : ℕ) (es : List Edge) (n : ℕ) → Within es n → n ≤ q → listed (edge p q) es ≡ false
+pub newer_unlisted : (e : Edge) (es : List Edge) (n : ℕ) → Within es n → n ≤ e.larger → listed e es ≡ false
 unfolding listed
-newer_unlisted p q [] n w h = refl
-newer_unlisted p q (edge a b ∷ es) n w h =
+newer_unlisted e [] n w h = refl
+newer_unlisted e (f ∷ es) n w h =
     let o = w 0 (omega arith) in
-    rw (ne_eqb q b (λ e. omega arith), newer_unlisted p q es n (λ k l. w (suc k) (omega arith)) h) (and_false (eqb p a))
+    rw (ne_eqb e.larger f.larger (λ q. omega arith), newer_unlisted e es n (λ k l. w (suc k) (omega arith)) h)
+    (and_false (eqb e.smaller f.smaller))
   where
     and_false : (s : Bool) → ((s && false) || false) ≡ false
     and_false true = refl
     and_false false = refl
 
-edges_few : (l es : List Edge) → length (edges_from l es) ≤ length l + length es
+edges_few : (l : List (ℕ × ℕ)) (es : List Edge) → length (edges_from l es) ≤ length l + length es
 unfolding edges_from
 edges_few [] es = omega arith
-edges_few (edge a b ∷ l) es = omega (arith, edges_few l (add_edge a b es), add_length a b es)
+edges_few (p ∷ l) es = omega (arith, edges_few l (add_edge p.0 p.1 es), add_length p.0 p.1 es)
 
 -- ---- the points that ends become
-find_le : (p : Vector) (tol2 : Float) (qs : List Vector) → find p tol2 qs ≤ length qs
-unfolding find
-find_le p tol2 [] = omega arith
-find_le p tol2 (q ∷ qs) = by_test (le (dist2 q p) tol2) (find_le p tol2 qs)
+from_lt : (t : Vector → Bool) (i k : ℕ) (qs : List Vector) → position_from t i qs ≡ Some k → k < i + length qs
+from_lt t i k [] e = cc
+from_lt t i k (q ∷ qs) e = by_test (t q) (from_lt t (i + 1) k qs) e
   where
-    by_test : (b : Bool) → find p tol2 qs ≤ length qs → cond b zero (suc (find p tol2 qs)) ≤ suc (length qs)
-    by_test true h = omega arith
-    by_test false h = omega arith
+    by_test : (b : Bool) → (position_from t (i + 1) qs ≡ Some k → k < i + 1 + length qs)
+        → cond b (Some i) (position_from t (i + 1) qs) ≡ Some k → k < i + suc (length qs)
+    by_test true h e = let here : i ≡ k = cc in omega arith
+    by_test false h e = omega (arith, h e)
 
--- of n points and the place f that an end finds, m points result: the end's point is among them, and there is at most one more
+pub find_lt : (p : Vector) (tol2 : Float) (qs : List Vector) (k : ℕ) → find p tol2 qs ≡ Some k → k < length qs
+unfolding find
+find_lt p tol2 qs k e = omega (arith, from_lt (near p tol2) 0 k qs e)
+
+-- of n points and the number f of the one that an end becomes, m points result: it is among them, and there is at most one more
 pub record Pushes (f n m : ℕ) : Type 0 where
   pub more : n ≤ m
   pub one : m ≤ n + 1
   pub among : f < m
 
-pub pushes : (p : Vector) (tol2 : Float) (qs : List Vector) → Pushes (find p tol2 qs) (length qs) (length (push p tol2 qs))
-unfolding push
-pushes p tol2 qs = by_test (ltb (find p tol2 qs) (length qs)) (ltb-true (find p tol2 qs) (length qs)) (find_le p tol2 qs)
+pub pushes : (p : Vector) (tol2 : Float) (qs : List Vector) → Pushes (place p tol2 qs) (length qs) (length (push p tol2 qs))
+unfolding push place
+pushes p tol2 qs = by_case (find p tol2 qs) (find_lt p tol2 qs)
   where
-    by_test : (b : Bool) → (b ≡ true → find p tol2 qs < length qs) → find p tol2 qs ≤ length qs
-        → Pushes (find p tol2 qs) (length qs) (length (cond b qs (qs ++ p ∷ [])))
-    by_test true e h = let x = e refl in omega arith
-    by_test false e h = omega (arith, length-append qs (p ∷ []))
+    by_case : (o : Option ℕ) → ((k : ℕ) → o ≡ Some k → k < length qs)
+        → Pushes (unwrap_or o (length qs)) (length qs) (length (cond (is_some o) qs (qs ++ p ∷ [])))
+    by_case None h = omega (arith, length-append qs (p ∷ []))
+    by_case (Some k) h = omega (arith, h k refl)
 
 points_more : (tol2 : Float) (ss : List Seg) (qs : List Vector) → length qs ≤ length (points_from tol2 ss qs)
 unfolding points_from
@@ -194,7 +221,7 @@ points_few tol2 (seg p q ∷ ss) qs =
     let b = pushes q tol2 (push p tol2 qs) in
     omega (arith, points_few tol2 ss (push q tol2 (push p tol2 qs)))
 
-becomes_within : (tol2 : Float) (ss : List Seg) (qs : List Vector) → Within (becomes tol2 ss qs) (length (points_from tol2 ss qs))
+becomes_within : (tol2 : Float) (ss : List Seg) (qs : List Vector) → Below (becomes tol2 ss qs) (length (points_from tol2 ss qs))
 unfolding becomes points_from
 becomes_within tol2 [] qs k h = absurd (not-suc-le-zero h)
 becomes_within tol2 (seg p q ∷ ss) qs zero h =

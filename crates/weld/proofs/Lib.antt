@@ -1,4 +1,4 @@
 pub mod Edges
 pub mod Points
-pub mod Lists
+pub mod Adding
 pub mod Welding

@@ -1,22 +1,32 @@
 -- Welding: the points that the ends of segments become, and the edges between them. Definitions only.
-use Rattle.std.specs.Prelude.{◌≡◌, List, [], ◌∷◌, ◌++◌, Bool, false, ◌&&◌, ◌||◌, cond, ℕ, zero, suc, ◌<◌, min, max, eqb, ltb, length, get_or, Float}
+use Rattle.std.specs.Prelude.{◌≡◌, List, [], ◌∷◌, ◌++◌, Bool, ◌&&◌, ◌||◌, cond, Option, is_some, unwrap_or, ℕ, ◌<◌, min, max, eqb, length, get_or, Float}
+use Rattle.std.specs.List.{list_any, position_from}
 use Rattle.std.specs.Float.Ieee.{le, add, sub, mul}
 use Rattle.vector.specs.Vector.{Vector, dist2}
 use Rattle.vector.specs.Rows.{Seg, seg}
+use Rattle.weld.specs.declared.Edge.{Edge}
 
 -- ---- the welded point of docs/RULES.md
 
--- The place of the first point whose squared distance to p is at most tol2; the number of points where there is none. A NaN distance is at
--- most nothing.
-unfoldable pub find : Vector → Float → List Vector → ℕ
+-- whether q is within the tolerance of p: their squared distance is at most tol2. A NaN distance is at most nothing.
+unfoldable pub near : Vector → Float → Vector → Bool
 unfolding add sub mul le
-find p tol2 [] = zero
-find p tol2 (q ∷ qs) = let r = suc (find p tol2 qs) in cond (le (dist2 q p) tol2) zero r
+near p tol2 q = le (dist2 q p) tol2
+
+-- the number of the first point near p
+unfoldable pub find : Vector → Float → List Vector → Option ℕ
+unfolding near
+find p tol2 qs = position_from (near p tol2) 0 qs
 
 -- The points after p has become one of them: p is a new point only where no point is near.
 unfoldable pub push : Vector → Float → List Vector → List Vector
 unfolding find
-push p tol2 qs = cond (ltb (find p tol2 qs) (length qs)) qs (qs ++ p ∷ [])
+push p tol2 qs = cond (is_some (find p tol2 qs)) qs (qs ++ p ∷ [])
+
+-- the number of the point that p becomes, after the points qs
+unfoldable pub place : Vector → Float → List Vector → ℕ
+unfolding find
+place p tol2 qs = unwrap_or (find p tol2 qs) (length qs)
 
 -- all points, those of qs first
 unfoldable pub points_from : Float → List Seg → List Vector → List Vector
@@ -25,17 +35,11 @@ points_from tol2 [] qs = qs
 points_from tol2 (seg p q ∷ ss) qs = points_from tol2 ss (push q tol2 (push p tol2 qs))
 
 -- ---- the edge of docs/RULES.md: two points, smaller first
-pub data Edge : Type 0 where
-  edge : ℕ → ℕ → Edge
-
-abbrev pub lo : Edge → ℕ
-lo (edge a b) = a
-
-abbrev pub hi : Edge → ℕ
-hi (edge a b) = b
+abbrev pub edge : ℕ → ℕ → Edge
+edge a b = record { smaller = a; larger = b }
 
 abbrev pub same : Edge → Edge → Bool
-same (edge a b) (edge c d) = eqb a c && eqb b d
+same e f = eqb e.smaller f.smaller && eqb e.larger f.larger
 
 -- the edge between two points
 abbrev pub between : ℕ → ℕ → Edge
@@ -43,14 +47,13 @@ between a b = edge (min a b) (max a b)
 
 -- whether an edge is in a list
 unfoldable pub listed : Edge → List Edge → Bool
-listed e [] = false
-listed e (f ∷ fs) = same e f || listed e fs
+listed e es = list_any (λ f. same e f) es
 
 -- The two points that the ends of each segment become, first end first, where qs are the points before.
-unfoldable pub becomes : Float → List Seg → List Vector → List Edge
-unfolding push
+unfoldable pub becomes : Float → List Seg → List Vector → List (ℕ × ℕ)
+unfolding push place
 becomes tol2 [] qs = []
-becomes tol2 (seg p q ∷ ss) qs = edge (find p tol2 qs) (find q tol2 (push p tol2 qs)) ∷ becomes tol2 ss (push q tol2 (push p tol2 qs))
+becomes tol2 (seg p q ∷ ss) qs = (place p tol2 qs, place q tol2 (push p tol2 qs)) ∷ becomes tol2 ss (push q tol2 (push p tol2 qs))
 
 -- ends that weld together give no edge; an edge is listed once
 unfoldable pub add_edge : ℕ → ℕ → List Edge → List Edge
@@ -58,10 +61,10 @@ unfolding listed
 add_edge a b es = cond (eqb a b || listed (between a b) es) es (es ++ between a b ∷ [])
 
 -- all edges, those of es first
-unfoldable pub edges_from : List Edge → List Edge → List Edge
+unfoldable pub edges_from : List (ℕ × ℕ) → List Edge → List Edge
 unfolding add_edge
 edges_from [] es = es
-edges_from (edge a b ∷ l) es = edges_from l (add_edge a b es)
+edges_from (p ∷ l) es = edges_from l (add_edge p.0 p.1 es)
 
 -- ---- a list of segments, welded within the squared tolerance tol2
 abbrev pub welded_points : Float → List Seg → List Vector
@@ -74,11 +77,11 @@ listed_edges tol2 ss = edges_from (becomes tol2 ss []) []
 
 -- each has its smaller point first
 abbrev pub Simple : List Edge → Type 0
-Simple es = (k : ℕ) → k < length es → lo (get_or es k (edge 0 0)) < hi (get_or es k (edge 0 0))
+Simple es = (k : ℕ) → k < length es → (get_or es k (edge 0 0)).smaller < (get_or es k (edge 0 0)).larger
 
 -- each is between two of n points
 abbrev pub Within : List Edge → ℕ → Type 0
-Within es n = (k : ℕ) → k < length es → (lo (get_or es k (edge 0 0)) < n) × (hi (get_or es k (edge 0 0)) < n)
+Within es n = (k : ℕ) → k < length es → ((get_or es k (edge 0 0)).smaller < n) × ((get_or es k (edge 0 0)).larger < n)
 
 -- none stands twice
 abbrev pub Distinct : List Edge → Type 0

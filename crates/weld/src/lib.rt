@@ -1,13 +1,10 @@
 // Welding: the points that the ends of segments become, and the edges between them.
 #![tactic(auto)]
 
-ghost use Rattle.std.specs.Prelude.{◌≡◌, ◌+◌, ◌*◌, ◌^◌, ◌≤◌, ◌<◌, length, take};
+ghost use Rattle.std.specs.Prelude.{◌≡◌, ◌+◌, ◌*◌, ◌^◌, ◌≤◌, ◌<◌, ◌||◌, cond, eqb, length, take};
 ghost use Rattle.vector.specs.Rows.{row, rows};
-ghost use Rattle.vector.specs.View.{vec2};
-ghost use Rattle.weld.specs.Weld.{Within, between, edge, find, listed, same};
-ghost use Rattle.weld.specs.Code.{Added, Became, SegmentWelded, Weldable, Welds, edges_of};
-
-use vector::Vec2;
+ghost use Rattle.weld.specs.Weld.{Within, between, find, listed};
+ghost use Rattle.weld.specs.Code.{Added, Became, SegmentWelded, Weldable, Welds};
 
 // How many points and edges there are.
 #[derive(Clone, Copy)]
@@ -17,26 +14,16 @@ pub struct Welded {
 }
 
 // Welds s segments: their ends become points, and the edges between them are listed.
-pub fn weld(
-    segments: &[f64],
-    s: usize,
-    tol2: f64,
-    points: &mut [f64],
-    smaller: &mut [u32],
-    larger: &mut [u32],
-) -> Welded
-    requires { Weldable s segments.now points.old smaller.old larger.old }
-    ensures { Welds tol2 segments.now s points.old result.points result.edges
-        points.new smaller.new larger.new }
+pub fn weld(segments: &[f64], s: usize, tol2: f64, points: &mut [f64], edges: &mut [Edge]) -> Welded
+    requires { Weldable s segments.now points.old edges.old }
+    ensures { Welds tol2 segments.now s points.old result.points result.edges points.new edges.new }
 {
     let mut welded = Welded {
         points: 0,
         edges: 0,
     };
-    let mut i = 0;
-    while i < s {
-        welded = weld_segment(segments, i, tol2, points, smaller, larger, welded);
-        i += 1;
+    for i in 0..s {
+        weld_segment(segments, i, tol2, points, edges, &mut welded);
     }
     welded
 }
@@ -47,158 +34,113 @@ fn weld_segment(
     i: usize,
     tol2: f64,
     points: &mut [f64],
-    smaller: &mut [u32],
-    larger: &mut [u32],
-    welded: Welded,
-) -> Welded
-    requires { (4 * i + 3 < length segments.now) × (2 * welded.points + 3 < length points.old)
-        × (welded.points + 1 < 2 ^ 32) × (welded.edges < length smaller.old)
-        × (length smaller.old ≡ length larger.old)
-        × Within (take welded.edges (edges_of smaller.old larger.old)) welded.points }
+    edges: &mut [Edge],
+    welded: &mut Welded,
+)
+    requires { (4 * i + 3 < length segments.now) × (2 * welded.old.points + 3 < length points.old)
+        × (welded.old.points + 1 < 2 ^ 32) × (welded.old.edges < length edges.old)
+        × Within (take welded.old.edges edges.old) welded.old.points }
     ensures { SegmentWelded (row 2 segments.now (2 * i)) (row 2 segments.now (2 * i + 1)) tol2
-        welded.points points.old welded.edges smaller.old larger.old
-        result.points points.new result.edges smaller.new larger.new }
+        welded.old.points points.old welded.old.edges edges.old welded.new.points points.new
+        welded.new.edges edges.new }
 {
-    let p = vector::coord2(segments, 2 * i);
-    let q = vector::coord2(segments, 2 * i + 1);
-    let a = push_coord(points, welded.points, p, tol2);
-    let b = push_coord(points, a.points, q, tol2);
-    let m = add_edge(
-        smaller,
-        larger,
-        welded.edges,
-        welded.points,
-        a.place,
-        b.place,
-    );
-    Welded {
-        points: b.points,
-        edges: m,
-    }
+    let n = welded.points;
+    let p = vector::coord(segments, 2 * i);
+    let q = vector::coord(segments, 2 * i + 1);
+    let a = push_coord(points, &mut welded.points, p, tol2);
+    let b = push_coord(points, &mut welded.points, q, tol2);
+    add_edge(edges, &mut welded.edges, n, a, b);
 }
 
-// The number of the point that a coordinate became, and how many points there are then.
-#[derive(Clone, Copy)]
-struct Pushed {
-    place: u32,
-    points: usize,
-}
-
-// Adds p to the n points unless one is near already.
-fn push_coord(points: &mut [f64], n: usize, p: Vec2, tol2: f64) -> Pushed
-    requires { (2 * n + 1 < length points.old) × (n < 2 ^ 32) }
-    ensures { Became (vec2 p) tol2 n points.old result.place result.points points.new }
+// Adds p to the n points unless one is near already. Gives the number of the point that it is.
+fn push_coord(points: &mut [f64], n: &mut usize, p: [f64; 2], tol2: f64) -> u32
+    requires { (2 * n.old + 1 < length points.old) × (n.old < 2 ^ 32) }
+    ensures { Became p tol2 n.old points.old result n.new points.new }
 {
-    let k = find(points, n, p, tol2);
-    if k < n {
-        return Pushed {
-            place: k as u32,
-            points: n,
-        };
+    if let Some(k) = find(points, *n, p, tol2) {
+        return k as u32;
     }
-    vector::put2(points, n, p);
-    Pushed {
-        place: n as u32,
-        points: n + 1,
-    }
+    let k = *n;
+    vector::put(points, k, p);
+    *n = k + 1;
+    k as u32
 }
 
-// The number of the first of the n points within the tolerance of p, or n: the first, not the nearest (docs/RULES.md).
-fn find(points: &[f64], n: usize, p: Vec2, tol2: f64) -> usize
+// The number of the first of the n points within the tolerance of p: the first, not the nearest (docs/RULES.md).
+fn find(points: &[f64], n: usize, p: [f64; 2], tol2: f64) -> Option<usize>
     requires { 2 * n ≤ length points.now }
-    ensures { result ≡ find (vec2 p) tol2 (rows 2 n points.now) }
+    ensures { result ≡ find p tol2 (rows 2 n points.now) }
 {
-    let mut k = 0;
-    while k < n {
-        if vector::coord2(points, k).dist2(p) <= tol2 {
-            return k;
+    for k in 0..n {
+        if vector::dist2(vector::coord(points, k), p) <= tol2 {
+            return Some(k);
         }
-        k += 1;
     }
-    n
+    None
 }
 
 // Adds the edge between points a and b to the m edges, which are between the first n points, unless a and b are one
 // point or it is listed already.
-fn add_edge(smaller: &mut [u32], larger: &mut [u32], m: usize, n: usize, a: u32, b: u32) -> usize
-    requires { (m < length smaller.old) × (length smaller.old ≡ length larger.old)
-        × Within (take m (edges_of smaller.old larger.old)) n }
-    ensures { Added a b m smaller.old larger.old result smaller.new
-        larger.new }
+fn add_edge(edges: &mut [Edge], m: &mut usize, n: usize, a: u32, b: u32)
+    requires { (m.old < length edges.old) × Within (take m.old edges.old) n }
+    ensures { Added a b m.old edges.old m.new edges.new }
 {
     if a == b {
-        return m;
+        return;
     }
-    let e = Edge::between(a, b);
-    if known(smaller, larger, m, n, e) {
-        return m;
+    let edge = Edge::between(a, b);
+    if known(&edges[..*m], n, edge) {
+        return;
     }
-    smaller[m] = e.smaller;
-    larger[m] = e.larger;
-    m + 1
+    edges[*m] = edge;
+    *m += 1;
 }
 
-// Whether e is one of the m edges, which are between the first n points. With a newer point e is none of them, and
+// Whether an edge is one of these, which are between the first n points. With a newer point it is none of them, and
 // they are not looked through.
-fn known(smaller: &[u32], larger: &[u32], m: usize, n: usize, e: Edge) -> bool
-    requires { (m ≤ length smaller.now) × (length smaller.now ≡ length larger.now)
-        × Within (take m (edges_of smaller.now larger.now)) n }
-    ensures { result ≡ listed (edge e.smaller e.larger)
-        (take m (edges_of smaller.now larger.now)) }
+fn known(edges: &[Edge], n: usize, edge: Edge) -> bool
+    requires { Within edges.now n }
+    ensures { result ≡ listed edge edges.now }
 {
-    if e.larger as usize >= n {
+    if edge.larger as usize >= n {
         return false;
     }
-    listed(smaller, larger, m, e)
-}
-
-// Whether e is one of the m edges.
-fn listed(smaller: &[u32], larger: &[u32], m: usize, e: Edge) -> bool
-    requires { (m ≤ length smaller.now) × (length smaller.now ≡ length larger.now) }
-    ensures { result ≡ listed (edge e.smaller e.larger)
-        (take m (edges_of smaller.now larger.now)) }
-{
-    let mut j = 0;
-    while j < m {
-        if e.same(smaller[j], larger[j]) {
-            return true;
-        }
-        j += 1;
-    }
-    false
+    edges.contains(&edge)
 }
 
 // An edge by its two points, smaller first.
-#[derive(Clone, Copy)]
-struct Edge {
-    smaller: u32,
-    larger: u32,
+#[derive(Clone, Copy, PartialEq, Eq)]
+pub struct Edge {
+    pub smaller: u32,
+    pub larger: u32,
 }
 
 impl Edge {
     // The edge between points a and b.
     fn between(a: u32, b: u32) -> Edge
-        ensures { edge result.smaller result.larger ≡ between a b }
+        ensures { result ≡ between a b }
     {
-        if a < b {
-            return Edge {
-                smaller: a,
-                larger: b,
-            };
-        }
         Edge {
-            smaller: b,
-            larger: a,
+            smaller: a.min(b),
+            larger: a.max(b),
         }
     }
 
-    // Whether it is between these two.
-    fn same(self, smaller: u32, larger: u32) -> bool
-        ensures { result ≡ same (edge self.smaller self.larger) (edge smaller larger) }
+    // Whether it ends at point c.
+    pub fn touches(self, c: u32) -> bool
+        ensures { result ≡ eqb self.smaller c || eqb self.larger c }
     {
-        if self.smaller != smaller {
-            return false;
+        self.smaller == c || self.larger == c
+    }
+
+    // Its end that is not point c.
+    pub fn other(self, c: u32) -> u32
+        ensures { result ≡ cond (eqb self.smaller c) self.larger self.smaller }
+    {
+        if self.smaller == c {
+            self.larger
+        } else {
+            self.smaller
         }
-        self.larger == larger
     }
 }

@@ -1,7 +1,6 @@
 -- `stitch::signed_area` meets its contract. Assumes nothing.
 use mathlib.Core.Path.{◌≡◌}
-use Prim.Native.Nat.{◌-◌, ◌<◌}
-use lib.ListN.{length, get_or, drop}
+use lib.ListN.{get_or, drop}
 use Rattle.vector.specs.Number.{f0}
 use Rattle.vector.specs.Rows.{rows}
 use Rattle.stitch.specs.Stitch.{area2_from}
@@ -9,8 +8,5 @@ use Rattle.stitch.proofs.signed_area.Given as goal
 
 abbrev pub invariant-loop-i : goal.invariant-loop-i
 invariant-loop-i l =
-    (l.i < length l.nodes)
-    × (area2_from (rows 2 l.n l.points) (get_or l.nodes 0 0) l.nodes f0 ≡ area2_from (rows 2 l.n l.points) (get_or l.nodes 0 0) (drop l.i l.nodes) l.area2)
-
-abbrev pub decreases-loop-i : goal.decreases-loop-i
-decreases-loop-i l = length l.nodes - l.i
+    let ps = rows 2 l.graph.n l.graph.points.now in
+    area2_from ps (get_or l.nodes 0 0) l.nodes f0 ≡ area2_from ps (get_or l.nodes 0 0) (drop l.i l.nodes) l.area2

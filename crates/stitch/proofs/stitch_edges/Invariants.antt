@@ -1,12 +1,9 @@
 -- `stitch::stitch_edges` meets its contract. Assumes nothing.
-use Prim.Native.Nat.{◌-◌}
-use lib.ListN.{length}
+use Rattle.vector.specs.Rows.{rows}
 use Rattle.stitch.proofs.Stitching.{Looping}
 use Rattle.stitch.proofs.stitch_edges.Given as goal
 
 abbrev pub invariant-loop-k : goal.invariant-loop-k
 invariant-loop-k l =
-    Looping l.n l.points l.smaller l.larger l.rule l.initial.used l.initial.walked l.initial.nodes l.initial.ends l.used l.walked l.nodes l.ends l.tally l.k
-
-abbrev pub decreases-loop-k : goal.decreases-loop-k
-decreases-loop-k l = length l.smaller - l.k
+    Looping (rows 2 l.graph.n l.graph.points.now) l.graph.edges.now l.rule l.initial.used l.initial.walked l.initial.nodes l.initial.ends l.used
+    l.walked l.nodes l.ends l.tally l.k

@@ -1,13 +1,14 @@
 -- `weld::push_coord` meets its contract. Assumes nothing.
-use mathlib.Core.Path.{refl}
+use mathlib.Core.Path.{sym, ◌∙◌}
 use native.Mathlib.Omega.{arith}
-use Rattle.weld.proofs.Points.{became_new, became_old}
+use Rattle.weld.proofs.Points.{became_new, became_old, found_below}
 use Rattle.weld.proofs.push_coord.Goals as goal
 
-pub returns-then-k-n : goal.returns-then-k-n
-returns-then-k-n c = became_old c.find-k.ensures (omega (arith, c.if-k-n.true))
+pub overflow_cast-result : goal.overflow_cast-result
+overflow_cast-result c = omega (arith, found_below c.args.p c.args.tol2 c.args.n.now c.in-Some.k c.args.points.now (sym c.in-Some.is ∙ c.find.ensures), c.requires.1)
+
+pub returns-in-Some : goal.returns-in-Some
+returns-in-Some c = became_old (sym c.in-Some.is ∙ c.find.ensures)
 
 pub returns : goal.returns
-returns c =
-    rw c.put2.ensures
-    (became_new c.find-k.ensures (omega (arith, c.if-k-n.false)) refl c.requires.0)
+returns c = rw c.put.ensures (became_new (sym c.in_default.is ∙ c.find.ensures) (omega arith) c.requires.0)

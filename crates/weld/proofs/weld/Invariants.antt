@@ -1,12 +1,8 @@
 -- `weld::weld` meets its contract. The invariant: what is welded so far, and the segments from i on, give what all give. Assumes nothing.
-use Prim.Native.Nat.{◌-◌}
 use lib.ListN.{length}
 use Rattle.weld.proofs.Welding.{Welding}
 use Rattle.weld.proofs.weld.Given as goal
 
 abbrev pub invariant-loop-i : goal.invariant-loop-i
 invariant-loop-i l =
-    Welding l.tol2 l.segments l.s l.initial.points (length l.initial.smaller) l.i l.welded.points l.welded.edges l.points l.smaller l.larger
-
-abbrev pub decreases-loop-i : goal.decreases-loop-i
-decreases-loop-i l = l.s - l.i
+    Welding l.tol2 l.segments l.s l.initial.points (length l.initial.edges) l.i l.welded.points l.welded.edges l.points l.edges

@@ -11,4 +11,4 @@ push_coord-b-requires c =
 
 pub returns : goal.returns
 returns c =
-    rw (← c.coord2-p.ensures, ← c.coord2-q.ensures) (joined c.push_coord-a.ensures c.push_coord-b.ensures c.add_edge-m.ensures)
+    rw (← c.coord-p.ensures, ← c.coord-q.ensures) (joined c.push_coord-a.ensures c.push_coord-b.ensures c.add_edge.ensures)
