@@ -7,43 +7,85 @@ use Prim.Native.Nat.{ℕ, ◌*◌, ◌/◌, ◌≤◌}
 use native.Mathlib.Omega.{arith}
 use lib.Ieee.{Float}
 use lib.ListN.{length}
+use Rattle.std.proofs.Common.{Option, Some, None, Result, Ok, Err}
+use Rattle.std.specs.Prelude.{ok_or, IsOk}
+use Rattle.std.specs.Result.{IsErrAnd}
 use Rattle.rows.specs.Rows.{ends_from, over}
 use Rattle.rows.specs.Outcome.{Outcome, refused, found, and_then, unless}
 use Rattle.rows.proofs.Lists.{flatten_map, ends_map, length_ends}
-use Rattle.cell.specs.Types.{allow, space_nodes, shape_of, shape_in, shape_numbered, plane_corners, corners_typed, corners_numbered}
+use Rattle.cell.specs.Types.{allow, space_nodes, space_type, shape_of, plane_type, plane_corners}
 use Rattle.cell.specs.Faces.{Face, faces_of, polygon_of}
-use Rattle.cell.specs.Read.{corner, are_rows, polygons, Polygon, reading_told, Tested, Cell, space_cell, plane_cell}
+use Rattle.cell.specs.Read.{corner, are_rows, polygons, Polygon, Typed, untyped, typed, read_as, Tested, Cell, space_cell, plane_cell}
 use Rattle.cell.specs.Read.{polygons_of, corners_of, face_count, Accepted, Copied}
-use Rattle.cell.specs.Code.{gathered, read_faces, corners_tested, Testable}
+use Rattle.cell.specs.Code.{gathered, rows_tested, corners_tested, Testable}
 use Rattle.cell.specs.Code.{Copies, CopiesFaces, CopiesPolygon, PutsFaces}
+use Rattle.rows.specs.Refusals.{number, outcome_of}
+use Rattle.rows.specs.declared.Refusal.{Refusal}
+use Rattle.rows.specs.declared.Refusal.TheVariants.{CellType}
 use Rattle.cell.specs.declared.Kept.{Kept}
-use Rattle.cell.specs.declared.Reading.{Reading}
-use Rattle.cell.specs.declared.Reading.TheVariants.{Refused}
+use Rattle.cell.specs.declared.types.Nodes.{Nodes}
+use Rattle.cell.specs.declared.types.PlaneType.{PlaneType}
 use Rattle.cell.specs.declared.types.SpaceType.{SpaceType}
-use Rattle.cell.proofs.Answers.{polygons_size, polygons_count, space_read, plane_read}
+use Rattle.cell.proofs.Answers.{unknown_type, counted, polygons_size, polygons_count, space_read, plane_read}
 use Rattle.cell.proofs.Bounds.{corners_within, nodes_few, plane_few}
 use Rattle.cell.proofs.Inside.{inside}
 use Rattle.cell.proofs.Polygon.{polygon_below}
 
+-- ---- the type with a number, as the code finds it
+
+unknown : {A : Type 0} {o : Option A} {e : Refusal} → Err e ≡ ok_or o CellType → (o ≡ None) × (e ≡ CellType)
+unknown {o = None} h = (refl, cc)
+unknown {o = Some a} h = cc
+
+known : {A : Type 0} {o : Option A} {a : A} → Ok a ≡ ok_or o CellType → o ≡ Some a
+known {o = None} h = cc
+known {o = Some a} h = cc
+
+pub is_known : {A : Type 0} {o : Option A} {a : A} → o ≡ Some a → IsOk (ok_or o CellType)
+is_known e = rw e
+
+same : {A : Type 0} {a b : A} {o : Option A} → o ≡ Some a → Ok b ≡ ok_or o CellType → a ≡ b
+same e h = let k = known h in cc
+
 -- ---- the test
 
--- a refusal
-pub tells : {o : Outcome (List Polygon)} {k : ℕ} → o ≡ refused k → Tested o (Refused k)
-tells e = rw e (record { tells = refl })
+-- the refusal that a step makes is told
+refused_as : (o : Outcome (List Polygon)) (e : Refusal) (r : Result ℕ Refusal) → o ≡ refused (number e) → IsErrAnd r (λ x. x ≡ e) → Tested o r
+refused_as o e (Ok m) h p = absurd p
+refused_as o e (Err x) h p = rw (h, ← p) (record { tells = refl })
 
--- a test of the faces tells what their reading would
-told_faces : (w : ℕ) (c : List ℕ) (xs : List Float) (fs : List Face)
-    → corners_tested c (length xs / w) (flatten fs) ≡ and_then (read_faces w c xs fs) (λ ps. found (length (flatten ps)))
-told_faces w c xs fs = by_test (are_rows c (length xs / w) (flatten fs))
-  where
-    by_test : (b : Bool) → unless 4 b (found (length (flatten fs)))
-        ≡ and_then (unless 4 b (found (polygons w c xs fs))) (λ ps. found (length (flatten ps)))
-    by_test true = ap found (polygons_size w c xs fs)
-    by_test false = refl
+module _ {A : Type 0} (w : ℕ) (told : Option A → Typed) (o : Option A) (k : Cell) where
+  -- 1
+  pub type_told : {e : Refusal} {r : Result ℕ Refusal} → told None ≡ untyped → Err e ≡ ok_or o CellType → IsErrAnd r (λ x. x ≡ e)
+      → Tested (read_as w (told o) k.conn k.coords) r
+  type_told u h p =
+      let t = unknown h in
+      refused_as _ _ _
+      (ap (λ o. read_as w (told o) k.conn k.coords) t.0 ∙ unknown_type w k.conn k.coords _ u ∙ ap (λ e. refused (number e)) (sym t.1)) p
 
-pub faces_told : (w : ℕ) (c : List ℕ) (xs : List Float) (fs : List Face) {o : Outcome (List Polygon)} {r : Reading}
-    → o ≡ read_faces w c xs fs → reading_told r ≡ corners_tested c (length xs / w) (flatten fs) → Tested o r
-faces_told w c xs fs e h = rw e (record { tells = h ∙ told_faces w c xs fs })
+  module _ {a : A} (h : Ok a ≡ ok_or o CellType) (n : Nodes) (faces : List ℕ → List Face) (d : told (Some a) ≡ typed n faces) where
+    abbrev next : ℕ → Outcome (List Polygon)
+    next r = unless 4 (are_rows k.conn r (flatten (faces k.conn))) (found (polygons w k.conn k.coords (faces k.conn)))
+
+    read_on : (c : Outcome ℕ) → c ≡ rows_tested w n k → read_as w (told o) k.conn k.coords ≡ and_then c next
+    read_on c e =
+        ap (λ o. read_as w (told o) k.conn k.coords) (known h) ∙ ap (λ t. read_as w t k.conn k.coords) d ∙ counted w n faces k
+        ∙ ap (λ c. and_then c next) (sym e)
+
+    -- 2 and 3
+    pub counts_told : (e : Refusal) {r : Result ℕ Refusal} → refused (number e) ≡ rows_tested w n k → IsErrAnd r (λ x. x ≡ e)
+        → Tested (read_as w (told o) k.conn k.coords) r
+    counts_told e h p = refused_as _ e _ (read_on _ h) p
+
+    -- 4 and the answer
+    pub faces_told : {m : ℕ} {r : Result ℕ Refusal} → found m ≡ rows_tested w n k → outcome_of r ≡ corners_tested k.conn m (flatten (faces k.conn))
+        → Tested (read_as w (told o) k.conn k.coords) r
+    faces_told {m} h t = rw (read_on _ h) (record { tells = t ∙ by_test (are_rows k.conn m (flatten (faces k.conn))) })
+      where
+        by_test : (b : Bool) → unless 4 b (found (length (flatten (faces k.conn))))
+            ≡ and_then (unless 4 b (found (polygons w k.conn k.coords (faces k.conn)))) (λ ps. found (length (flatten ps)))
+        by_test true = ap found (polygons_size w k.conn k.coords (faces k.conn))
+        by_test false = refl
 
 pub testable : (k : SpaceType) (c : List ℕ) → allow (space_nodes k) (length c) ≡ true → Testable c (faces_of (shape_of k) c)
 testable k c a = record { few = nodes_few k (length c) a; inside = inside k c a }
@@ -79,16 +121,16 @@ module _ (c : List ℕ) (xs : List Float) (fs : List Face) (ps es : List ℕ) (p
 -- ---- what an accepted cell brings along
 
 module _ (k : Cell) (a : Accepted (space_cell k)) where
-  pub copies_space : (out : List Float) (ends : List ℕ) → 3 * corners_of (space_cell k) ≤ length out
-      → face_count (space_cell k) ≤ length ends
-      → CopiesFaces k.conn k.coords (faces_of (shape_numbered k.cell_type) k.conn) out ends
-  copies_space out ends h l =
+  pub copies_space : (t : SpaceType) → Ok t ≡ ok_or (space_type k.cell_type) CellType → (out : List Float) (ends : List ℕ)
+      → 3 * corners_of (space_cell k) ≤ length out → face_count (space_cell k) ≤ length ends
+      → CopiesFaces k.conn k.coords (faces_of (shape_of t) k.conn) out ends
+  copies_space t e out ends h l =
       let q = space_read k (polygons_of (space_cell k)) a in
       let fs = faces_of (shape_of q.kind) k.conn in
       let m : length (flatten fs) ≡ corners_of (space_cell k)
       = polygons_size 3 k.conn k.coords fs ∙ ap (λ l. length (flatten l)) (sym q.passed.are) in
       let f : length fs ≡ face_count (space_cell k) = polygons_count 3 k.conn k.coords fs ∙ ap length (sym q.passed.are) in
-      subst (λ o. CopiesFaces k.conn k.coords (faces_of (shape_in o) k.conn) out ends) (sym q.known)
+      subst (λ t. CopiesFaces k.conn k.coords (faces_of (shape_of t) k.conn) out ends) (same q.known e)
       (record {
         few = nodes_few q.kind (length k.conn) q.passed.allowed;
         copies =
@@ -101,20 +143,21 @@ module _ (k : Cell) (a : Accepted (space_cell k)) where
         space = omega arith;
       })
 
-  pub space_polygons : polygons 3 k.conn k.coords (faces_of (shape_numbered k.cell_type) k.conn) ≡ polygons_of (space_cell k)
-  space_polygons =
+  pub space_polygons : (t : SpaceType) → Ok t ≡ ok_or (space_type k.cell_type) CellType
+      → polygons 3 k.conn k.coords (faces_of (shape_of t) k.conn) ≡ polygons_of (space_cell k)
+  space_polygons t e =
       let q = space_read k (polygons_of (space_cell k)) a in
-      ap (λ o. polygons 3 k.conn k.coords (faces_of (shape_in o) k.conn)) q.known ∙ sym q.passed.are
+      ap (λ t. polygons 3 k.conn k.coords (faces_of (shape_of t) k.conn)) (sym (same q.known e)) ∙ sym q.passed.are
 
 module _ (k : Cell) (a : Accepted (plane_cell k)) where
-  pub copies_plane : (out : List Float) → 2 * corners_of (plane_cell k) ≤ length out
-      → CopiesPolygon k.conn k.coords (corners_numbered k.cell_type (length k.conn)) out
-  copies_plane out h =
+  pub copies_plane : (t : PlaneType) → Ok t ≡ ok_or (plane_type k.cell_type) CellType → (out : List Float)
+      → 2 * corners_of (plane_cell k) ≤ length out → CopiesPolygon k.conn k.coords (plane_corners t (length k.conn)) out
+  copies_plane t e out h =
       let q = plane_read k (polygons_of (plane_cell k)) a in
       let n = plane_corners q.kind (length k.conn) in
       let m : length (flatten (polygon_of n)) ≡ corners_of (plane_cell k)
       = polygons_size 2 k.conn k.coords (polygon_of n) ∙ ap (λ l. length (flatten l)) (sym q.passed.are) in
-      subst (λ o. CopiesPolygon k.conn k.coords (corners_typed o (length k.conn)) out) (sym q.known)
+      subst (λ t. CopiesPolygon k.conn k.coords (plane_corners t (length k.conn)) out) (same q.known e)
       (record {
         few = plane_few q.kind (length k.conn) q.passed.allowed;
         copies =
@@ -126,8 +169,8 @@ module _ (k : Cell) (a : Accepted (plane_cell k)) where
             };
       })
 
-  pub plane-polygons
-      : polygons 2 k.conn k.coords (polygon_of (corners_numbered k.cell_type (length k.conn))) ≡ polygons_of (plane_cell k)
-  plane-polygons =
+  pub plane_polygons : (t : PlaneType) → Ok t ≡ ok_or (plane_type k.cell_type) CellType
+      → polygons 2 k.conn k.coords (polygon_of (plane_corners t (length k.conn))) ≡ polygons_of (plane_cell k)
+  plane_polygons t e =
       let q = plane_read k (polygons_of (plane_cell k)) a in
-      ap (λ o. polygons 2 k.conn k.coords (polygon_of (corners_typed o (length k.conn)))) q.known ∙ sym q.passed.are
+      ap (λ t. polygons 2 k.conn k.coords (polygon_of (plane_corners t (length k.conn)))) (sym (same q.known e)) ∙ sym q.passed.are

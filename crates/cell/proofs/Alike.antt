@@ -6,6 +6,7 @@ use native.Mathlib.Omega.{arith}
 use lib.Dec.{T, ltb, ltb→lt}
 use lib.Ieee.{Float}
 use lib.Ieee.Fits.{and_l, and_r}
+use Rattle.std.proofs.Common.{Option, Some, None}
 use lib.ListN.{length, take, drop, length-map}
 use lib.Seq.{take_at, drop_at}
 use Rattle.rows.specs.Outcome.{found}
@@ -14,8 +15,6 @@ use Rattle.cell.specs.Types.{space_corners, plane_corners}
 use Rattle.cell.specs.Read.{corner, Polygon, Typed, untyped, typed, read_as, typed_in_space, typed_in_plane, numbered_in_space, numbered_in_plane}
 use Rattle.cell.specs.Code.{below}
 use Rattle.cell.specs.Claims.{faces_as, Alike, FirstDecide, MidSidesFree}
-use Rattle.cell.specs.declared.types.InSpace.TheVariants as s
-use Rattle.cell.specs.declared.types.InPlane.TheVariants as p
 use Rattle.cell.proofs.Inside.{among_corners}
 use Rattle.cell.proofs.Polygon.{polygon_below}
 use Rattle.cell.proofs.Answers.{passed}
@@ -87,8 +86,8 @@ first_decide w k corners b c c' xs xs' ps ps' r r' f z =
 pub mid_sides_free : MidSidesFree
 mid_sides_free =
     record {
-      in_space = λ t. first_decide 3 (typed_in_space (s.Known t)) (space_corners t) (among_corners t);
+      in_space = λ t. first_decide 3 (typed_in_space (Some t)) (space_corners t) (among_corners t);
       in_plane = λ t.
-          first_decide 2 (typed_in_plane (p.Known t)) (plane_corners t)
+          first_decide 2 (typed_in_plane (Some t)) (plane_corners t)
           (λ c. polygon_below (plane_corners t (length c)) (plane_corners t (length c)) (omega arith));
     }

@@ -1,10 +1,12 @@
 -- What the clauses of the parts of the reading cite. Definitions only.
-use Rattle.std.specs.Prelude.{ℕ, ◌*◌, ◌/◌, ◌≤◌, ◌<◌, ◌≡◌, Bool, true, ◌&&◌, T, ltb, Float, length, take}
+use Rattle.std.specs.Prelude.{ℕ, ◌*◌, ◌/◌, ◌%◌, ◌≤◌, ◌<◌, ◌≡◌, Bool, true, ◌&&◌, T, eqb, ltb, Float, length, take}
 use mathlib.Core.List.{List, [], ◌∷◌, map, flatten}
 use Rattle.rows.specs.Rows.{ends_from}
 use Rattle.rows.specs.Outcome.{Outcome, found, unless}
 use Rattle.cell.specs.Faces.{Face, polygon_of}
-use Rattle.cell.specs.Read.{corner, are_rows, polygons, Polygon, Copied}
+use Rattle.cell.specs.Types.{allow}
+use Rattle.cell.specs.Read.{corner, are_rows, polygons, Polygon, Cell, Copied}
+use Rattle.cell.specs.declared.types.Nodes.{Nodes}
 use Rattle.cell.specs.declared.Kept.{Kept}
 
 -- ---- positions of the connectivity
@@ -35,6 +37,10 @@ read_faces w c xs fs = unless 4 (are_rows c (length xs / w) (flatten fs)) (found
 pub record Testable (c : List ℕ) (fs : List Face) : Type 0 where
   pub few : length c ≤ 256
   pub inside : T (below (length c) (flatten fs))
+
+-- what is told of a cell whose type has n nodes: refusals 2 and 3, or how many rows of w coordinates it has
+abbrev pub rows_tested : ℕ → Nodes → Cell → Outcome ℕ
+rows_tested w n k = unless 2 (allow n (length k.conn)) (unless 3 (eqb (length k.coords % w) 0) (found (length k.coords / w)))
 
 -- what is told of corners at the positions ps: refusal 4, or how many they are
 abbrev pub corners_tested : List ℕ → ℕ → List ℕ → Outcome ℕ

@@ -6,20 +6,23 @@ pub mod types;
 ghost use Rattle.std.specs.Prelude.{◌≡◌, ◌+◌, ◌*◌, ◌/◌, ◌<◌, ◌≤◌, T, length, get_or, take};
 ghost use mathlib.Core.List.{flatten};
 ghost use Rattle.std.proofs.Math.Seq.{paste};
-ghost use Rattle.rows.specs.Rows.{over};
+ghost use Rattle.rows.specs.Refusals.{outcome_of};
+ghost use Rattle.rows.specs.Rows.{over, row};
 ghost use Rattle.cell.specs.Faces.{stretches, kept, faces_of, polygon_of};
-ghost use Rattle.cell.specs.Read.{are_rows, polygons, cell, space_cell, plane_cell, polygons_of, corners_of, face_count};
-ghost use Rattle.cell.specs.Read.{reading_told, Accepted, Copied, CopiedPolygon, Tested};
-ghost use Rattle.cell.specs.Code.{below, gathered, corners_tested, Listed, Testable};
+ghost use Rattle.cell.specs.Read.{polygons, space_cell, plane_cell, polygons_of, corners_of, face_count};
+ghost use Rattle.cell.specs.Read.{cell_of, Accepted, Copied, CopiedPolygon, Tested};
+ghost use Rattle.cell.specs.Code.{below, gathered, rows_tested, corners_tested, Listed, Testable};
 ghost use Rattle.cell.specs.Code.{Copies, CopiesFaces, CopiesPolygon, PutsFaces, PutFaces};
 
-use types::{InPlane, InSpace, PlaneType, Shape, SpaceType};
+use rows::Refusal;
+use types::{Nodes, PlaneType, Shape, SpaceType};
 
-// What is read of a cell: the number of a refusal, or how many face corners are kept.
+// A cell as it is handed over: a type number, node numbers, and coordinates.
 #[derive(Clone, Copy)]
-pub enum Reading {
-    Refused(u8),
-    Cell(usize),
+pub struct Cell<'a> {
+    pub cell_type: u8,
+    pub conn: &'a [u64],
+    pub coords: &'a [f64],
 }
 
 // How many face corners and faces are kept.
@@ -29,75 +32,67 @@ pub struct Kept {
     pub faces: usize,
 }
 
-// Refusals 1 to 4 of a cell in space, or how many face corners it has. Writes nothing.
-pub fn test_space_cell(cell_type: u8, conn: &[u64], coords: &[f64]) -> Reading
-    ensures { Tested (space_cell (cell cell_type conn.now coords.now)) result }
-{
-    let InSpace::Known(k) = SpaceType::of_number(cell_type) else {
-        return Reading::Refused(1);
-    };
-    if !k.nodes().allow(conn.len()) {
-        return Reading::Refused(2);
+impl Cell<'_> {
+    // Refusals 1 to 4 of a cell in space, or how many face corners it has. Writes nothing.
+    pub fn test_in_space(&self) -> Result<usize, Refusal>
+        ensures { Tested (space_cell (cell_of self.now)) result }
+    {
+        let k = SpaceType::try_from(self.cell_type)?;
+        let rows = self.rows::<3>(k.nodes())?;
+        test_faces(k.shape(), self.conn, rows)
     }
-    if coords.len() % 3 != 0 {
-        return Reading::Refused(3);
-    }
-    test_faces(k.shape(), conn, coords.len() / 3)
-}
 
-// The corners' coordinates of an accepted cell in space, written over the start of `out` face by face, and where each
-// face ends among the corners, written over the start of `face_ends`.
-pub fn copy_space_cell(
-    cell_type: u8,
-    conn: &[u64],
-    coords: &[f64],
-    out: &mut [f64],
-    face_ends: &mut [usize],
-) -> Kept
-    requires { Accepted (space_cell (cell cell_type conn.now coords.now))
-        × (3 * corners_of (space_cell (cell cell_type conn.now coords.now)) ≤ length out.old)
-        × (face_count (space_cell (cell cell_type conn.now coords.now)) ≤ length face_ends.old) }
-    ensures { Copied (polygons_of (space_cell (cell cell_type conn.now coords.now))) result
-        out.old out.new face_ends.old face_ends.new }
-{
-    copy_faces(SpaceType::shape_of(cell_type), conn, coords, out, face_ends)
-}
-
-// Refusals 1 to 4 of a cell in the plane, or how many corners it has. Writes nothing.
-pub fn test_plane_cell(cell_type: u8, conn: &[u64], coords: &[f64]) -> Reading
-    ensures { Tested (plane_cell (cell cell_type conn.now coords.now)) result }
-{
-    let InPlane::Known(k) = PlaneType::of_number(cell_type) else {
-        return Reading::Refused(1);
-    };
-    if !k.nodes().allow(conn.len()) {
-        return Reading::Refused(2);
+    // The corners' coordinates of an accepted cell in space, written over the start of `out` face by face, and where
+    // each face ends among the corners, written over the start of `face_ends`.
+    pub fn copy_in_space(&self, out: &mut [f64], face_ends: &mut [usize]) -> Kept
+        requires { Accepted (space_cell (cell_of self.now))
+            × (3 * corners_of (space_cell (cell_of self.now)) ≤ length out.old)
+            × (face_count (space_cell (cell_of self.now)) ≤ length face_ends.old) }
+        ensures { Copied (polygons_of (space_cell (cell_of self.now))) result
+            out.old out.new face_ends.old face_ends.new }
+    {
+        let k = SpaceType::try_from(self.cell_type).unwrap();
+        copy_faces(k.shape(), self.conn, self.coords, out, face_ends)
     }
-    if coords.len() % 2 != 0 {
-        return Reading::Refused(3);
-    }
-    test_polygon(k.corners(conn.len()), conn, coords.len() / 2)
-}
 
-// The corners' coordinates of an accepted cell in the plane, written over the start of `out`.
-pub fn copy_plane_cell(cell_type: u8, conn: &[u64], coords: &[f64], out: &mut [f64])
-    requires { Accepted (plane_cell (cell cell_type conn.now coords.now))
-        × (2 * corners_of (plane_cell (cell cell_type conn.now coords.now)) ≤ length out.old) }
-    ensures { CopiedPolygon (polygons_of (plane_cell (cell cell_type conn.now coords.now)))
-        out.old out.new }
-{
-    copy_polygon(
-        PlaneType::corners_of(cell_type, conn.len()),
-        conn,
-        coords,
-        out,
-    )
+    // Refusals 1 to 4 of a cell in the plane, or how many corners it has. Writes nothing.
+    pub fn test_in_plane(&self) -> Result<usize, Refusal>
+        ensures { Tested (plane_cell (cell_of self.now)) result }
+    {
+        let k = PlaneType::try_from(self.cell_type)?;
+        let rows = self.rows::<2>(k.nodes())?;
+        test_polygon(k.corners(self.conn.len()), self.conn, rows)
+    }
+
+    // The corners' coordinates of an accepted cell in the plane, written over the start of `out`.
+    pub fn copy_in_plane(&self, out: &mut [f64])
+        requires { Accepted (plane_cell (cell_of self.now))
+            × (2 * corners_of (plane_cell (cell_of self.now)) ≤ length out.old) }
+        ensures { CopiedPolygon (polygons_of (plane_cell (cell_of self.now))) out.old out.new }
+    {
+        let k = PlaneType::try_from(self.cell_type).unwrap();
+        copy_polygon(k.corners(self.conn.len()), self.conn, self.coords, out)
+    }
+
+    // Refusals 2 and 3 of a type with so many nodes, or how many rows of W coordinates there are.
+    fn rows<const W: usize>(&self, nodes: Nodes) -> Result<usize, Refusal>
+        requires { 0 < W }
+        ensures { outcome_of result ≡ rows_tested W nodes (cell_of self.now) }
+    {
+        if !nodes.allow(self.conn.len()) {
+            return Err(Refusal::NodeCount);
+        }
+        if self.coords.len() % W != 0 {
+            return Err(Refusal::PartialRow);
+        }
+        Ok(self.coords.len() / W)
+    }
 }
 
 // Refusal 4, or how many corners the faces of this shape have.
-fn test_faces(s: Shape, conn: &[u64], rows: usize) -> Reading
+fn test_faces(s: Shape, conn: &[u64], rows: usize) -> Result<usize, Refusal>
     requires { Testable conn.now (faces_of s conn.now) }
-    ensures { reading_told result ≡ corners_tested conn.now rows (flatten (faces_of s conn.now)) }
+    ensures { outcome_of result ≡ corners_tested conn.now rows (flatten (faces_of s conn.now)) }
 {
     match s {
         Shape::Tet => test_corners(conn, &TET, rows),
@@ -108,9 +103,9 @@ fn test_faces(s: Shape, conn: &[u64], rows: usize) -> Reading
 }
 
 // The same of a polyhedron.
-fn test_phed(conn: &[u64], rows: usize) -> Reading
+fn test_phed(conn: &[u64], rows: usize) -> Result<usize, Refusal>
     requires { Testable conn.now (kept (stretches 0 conn.now)) }
-    ensures { reading_told result ≡ corners_tested conn.now rows
+    ensures { outcome_of result ≡ corners_tested conn.now rows
         (flatten (kept (stretches 0 conn.now))) }
 {
     let mut corners = [0u8; 256];
@@ -121,9 +116,9 @@ fn test_phed(conn: &[u64], rows: usize) -> Reading
 }
 
 // The same of a polygon, whose corners are its first n nodes.
-fn test_polygon(n: usize, conn: &[u64], rows: usize) -> Reading
+fn test_polygon(n: usize, conn: &[u64], rows: usize) -> Result<usize, Refusal>
     requires { (n ≤ length conn.now) × (n ≤ 256) }
-    ensures { reading_told result ≡ corners_tested conn.now rows (flatten (polygon_of n)) }
+    ensures { outcome_of result ≡ corners_tested conn.now rows (flatten (polygon_of n)) }
 {
     if n <= 4 {
         return test_corners(conn, &RING[..n], rows);
@@ -134,14 +129,16 @@ fn test_polygon(n: usize, conn: &[u64], rows: usize) -> Reading
 }
 
 // Refusal 4, or how many corners these are.
-fn test_corners(conn: &[u64], corners: &[u8], rows: usize) -> Reading
+fn test_corners(conn: &[u64], corners: &[u8], rows: usize) -> Result<usize, Refusal>
     requires { T (below (length conn.now) corners.now) }
-    ensures { reading_told result ≡ corners_tested conn.now rows corners.now }
+    ensures { outcome_of result ≡ corners_tested conn.now rows corners.now }
 {
-    if are_rows(conn, corners, rows) {
-        return Reading::Cell(corners.len());
+    for p in corners {
+        if rows <= node(conn, *p) {
+            return Err(Refusal::NoSuchRow);
+        }
     }
-    Reading::Refused(4)
+    Ok(corners.len())
 }
 
 // The corners of a cell of this shape, all of which are rows.
@@ -185,11 +182,11 @@ fn copy_polygon(n: usize, conn: &[u64], coords: &[f64], out: &mut [f64])
         out.new }
 {
     if n <= 4 {
-        return copy_rows(2, conn, coords, &RING[..n], out);
+        return copy_rows::<2>(conn, coords, &RING[..n], out);
     }
     let mut corners = [0u8; 256];
     list_pgon(n, &mut corners);
-    copy_rows(2, conn, coords, &corners[..n], out)
+    copy_rows::<2>(conn, coords, &corners[..n], out)
 }
 
 // The corners at these positions, and the faces that end here among them.
@@ -205,8 +202,8 @@ fn put_faces(
     ensures { PutFaces corners.now ends.now conn.now coords.now result
         out.old out.new face_ends.old face_ends.new }
 {
-    copy_rows(3, conn, coords, corners, out);
-    put(face_ends, ends);
+    copy_rows::<3>(conn, coords, corners, out);
+    face_ends[..ends.len()].copy_from_slice(ends);
     Kept {
         corners: corners.len(),
         faces: ends.len(),
@@ -243,12 +240,9 @@ fn list_phed(conn: &[u64], corners: &mut [u8; 256], ends: &mut [usize; 85]) -> K
     let mut n = 0;
     let mut start = 0;
     let mut f = 0;
-    let mut i = 0;
-    while i < conn.len() {
-        let at = i;
-        i += 1;
-        if conn[at] != SEPARATOR {
-            corners[n] = at as u8;
+    for (i, node) in conn.iter().enumerate() {
+        if *node != SEPARATOR {
+            corners[n] = i as u8;
             n += 1;
         } else if n - start < 3 {
             n = start;
@@ -276,52 +270,18 @@ fn list_pgon(n: usize, corners: &mut [u8; 256])
     requires { (n ≤ 256) × (length corners.old ≡ 256) }
     ensures { (n ≤ length corners.new) × (take n corners.new ≡ flatten (polygon_of n)) }
 {
-    let mut i = 0;
-    while i < n {
+    for i in 0..n {
         corners[i] = i as u8;
-        i += 1;
     }
-}
-
-// The table written over the start of a slice.
-fn put(out: &mut [usize], table: &[usize])
-    requires { length table.now ≤ length out.old }
-    ensures { out.new ≡ over table.now out.old }
-{
-    let mut j = 0;
-    while j < table.len() {
-        out[j] = table[j];
-        j += 1;
-    }
-}
-
-// Whether every corner is among the rows.
-fn are_rows(conn: &[u64], corners: &[u8], rows: usize) -> bool
-    requires { T (below (length conn.now) corners.now) }
-    ensures { result ≡ are_rows conn.now rows corners.now }
-{
-    let mut j = 0;
-    while j < corners.len() {
-        if rows <= node(conn, corners[j]) {
-            return false;
-        }
-        j += 1;
-    }
-    true
 }
 
 // The corners' rows, one after the other.
-fn copy_rows(w: usize, conn: &[u64], coords: &[f64], corners: &[u8], out: &mut [f64])
-    requires { Copies w conn.now coords.now corners.now out.old }
-    ensures { out.new ≡ over (gathered w conn.now coords.now corners.now)
-        out.old }
+fn copy_rows<const W: usize>(conn: &[u64], coords: &[f64], corners: &[u8], out: &mut [f64])
+    requires { Copies W conn.now coords.now corners.now out.old }
+    ensures { out.new ≡ over (gathered W conn.now coords.now corners.now) out.old }
 {
-    let mut j = 0;
-    while j < corners.len() {
-        let a = w * node(conn, corners[j]);
-        let e = a + w;
-        copy(out, w * j, &coords[a..e]);
-        j += 1;
+    for (j, p) in corners.iter().enumerate() {
+        copy_row::<W>(coords, node(conn, *p), out, j);
     }
 }
 
@@ -330,19 +290,16 @@ fn node(conn: &[u64], p: u8) -> usize
     requires { p < length conn.now }
     ensures { result ≡ get_or conn.now p 0 }
 {
-    let i = p as usize;
-    conn[i] as usize
+    conn[p as usize] as usize
 }
 
-// The numbers of `from` written at `at`.
-fn copy(out: &mut [f64], at: usize, from: &[f64])
-    requires { at + length from.now ≤ length out.old }
-    ensures { out.new ≡ paste out.old at from.now
-        (length from.now) }
+// Row i of `from` written over row j of `out`.
+fn copy_row<const W: usize>(from: &[f64], i: usize, out: &mut [f64], j: usize)
+    requires from { W * i + W ≤ length from.now }
+    requires out { W * j + W ≤ length out.old }
+    ensures { out.new ≡ paste out.old (W * j) (row W from.now i) W }
 {
-    let mut j = 0;
-    while j < from.len() {
-        out[at + j] = from[j];
-        j += 1;
+    for k in 0..W {
+        out[W * j + k] = from[W * i + k];
     }
 }
