@@ -13,20 +13,21 @@ use Rattle.std.specs.Result.{IsErrAnd}
 use Rattle.rows.specs.Rows.{ends_from, over}
 use Rattle.rows.specs.Outcome.{Outcome, refused, found, and_then, unless}
 use Rattle.rows.proofs.Lists.{flatten_map, ends_map, length_ends}
-use Rattle.cell.specs.Types.{allow, space_nodes, space_type, shape_of, plane_type, plane_corners}
+use Rattle.cell.specs.Types.{allow, space_nodes, space_type, shape_of, plane_nodes, plane_type, plane_corners}
 use Rattle.cell.specs.Faces.{Face, faces_of, polygon_of}
 use Rattle.cell.specs.Read.{corner, are_rows, polygons, Polygon, Typed, untyped, typed, read_as, Tested, Cell, space_cell, plane_cell}
-use Rattle.cell.specs.Read.{polygons_of, corners_of, face_count, Accepted, Copied}
+use Rattle.cell.specs.Read.{polygons_of, corners_of, face_count, Accepted, Copied, CopiedPolygon}
 use Rattle.cell.specs.Code.{gathered, rows_tested, corners_tested, Testable}
-use Rattle.cell.specs.Code.{Copies, CopiesFaces, CopiesPolygon, PutsFaces}
+use Rattle.cell.specs.Code.{Copies, CopiesFaces, Lists, PutsFaces}
 use Rattle.rows.specs.Refusals.{number, outcome_of}
 use Rattle.rows.specs.declared.Refusal.{Refusal}
 use Rattle.rows.specs.declared.Refusal.TheVariants.{CellType}
+use Rattle.cell.specs.declared.FaceList.{FaceList}
 use Rattle.cell.specs.declared.Kept.{Kept}
 use Rattle.cell.specs.declared.types.Nodes.{Nodes}
 use Rattle.cell.specs.declared.types.PlaneType.{PlaneType}
 use Rattle.cell.specs.declared.types.SpaceType.{SpaceType}
-use Rattle.cell.proofs.Answers.{unknown_type, counted, polygons_size, polygons_count, space_read, plane_read}
+use Rattle.cell.proofs.Answers.{Passed, unknown_type, counted, polygons_size, polygons_count, space_read, plane_read}
 use Rattle.cell.proofs.Bounds.{corners_within, nodes_few, plane_few}
 use Rattle.cell.proofs.Inside.{inside}
 use Rattle.cell.proofs.Polygon.{polygon_below}
@@ -102,20 +103,20 @@ pub copies_at : {w : ℕ} {c : List ℕ} {xs : List Float} {ps qs : List ℕ} {o
     → Copies w c xs ps out
 copies_at {w} {c} {xs} {out = out} e h = subst (λ l. Copies w c xs l out) (sym e) h
 
-module _ (c : List ℕ) (xs : List Float) (fs : List Face) (ps es : List ℕ) (p : ps ≡ flatten fs) (q : es ≡ ends_from 0 fs) where
-  pub puts : (out : List Float) (ends : List ℕ) → CopiesFaces c xs fs out ends → PutsFaces ps es c xs out ends
-  puts out ends h = record { copies = copies_at p h.copies; space = omega (arith, ap length q, length_ends 0 fs, h.space) }
+module _ (c : List ℕ) (xs : List Float) {fs : List Face} {l : FaceList} (h : Lists fs l) where
+  pub puts : (out : List Float) (ends : List ℕ) → CopiesFaces c xs fs out ends → PutsFaces l c xs out ends
+  puts out ends r = record { copies = copies_at h.corners r.copies; space = omega (arith, ap length h.ends, length_ends 0 fs, r.space) }
 
-  pub copied : (out out' : List Float) (ends ends' : List ℕ) → out' ≡ over (gathered 3 c xs ps) out → ends' ≡ over es ends
-      → Copied (polygons 3 c xs fs) (record { corners = length ps; faces = length es }) out out' ends ends'
+  pub copied : (out out' : List Float) (ends ends' : List ℕ) → out' ≡ over (gathered 3 c xs l.corners.now) out → ends' ≡ over l.ends.now ends
+      → Copied (polygons 3 c xs fs) (record { corners = length l.corners.now; faces = length l.ends.now }) out out' ends ends'
   copied out out' ends ends' f g =
       record {
         kept_is =
-            ap (λ m. record { corners = m; faces = length es }) (ap length p ∙ polygons_size 3 c xs fs)
+            ap (λ m. record { corners = m; faces = length l.ends.now }) (ap length h.corners ∙ polygons_size 3 c xs fs)
             ∙ ap {B = Kept} (λ f. record { corners = length (flatten (polygons 3 c xs fs)); faces = f })
-            (ap length q ∙ length_ends 0 fs ∙ polygons_count 3 c xs fs);
-        coords = f ∙ corners_copied 3 c xs fs ps out p;
-        places = g ∙ ap (λ l. over l ends) (q ∙ sym (ends_map (corner 3 c xs) 0 fs));
+            (ap length h.ends ∙ length_ends 0 fs ∙ polygons_count 3 c xs fs);
+        coords = f ∙ corners_copied 3 c xs fs l.corners.now out h.corners;
+        places = g ∙ ap (λ e. over e ends) (h.ends ∙ sym (ends_map (corner 3 c xs) 0 fs));
       }
 
 -- ---- what an accepted cell brings along
@@ -149,28 +150,30 @@ module _ (k : Cell) (a : Accepted (space_cell k)) where
       let q = space_read k (polygons_of (space_cell k)) a in
       ap (λ t. polygons 3 k.conn k.coords (faces_of (shape_of t) k.conn)) (sym (same q.known e)) ∙ sym q.passed.are
 
-module _ (k : Cell) (a : Accepted (plane_cell k)) where
-  pub copies_plane : (t : PlaneType) → Ok t ≡ ok_or (plane_type k.cell_type) CellType → (out : List Float)
-      → 2 * corners_of (plane_cell k) ≤ length out → CopiesPolygon k.conn k.coords (plane_corners t (length k.conn)) out
-  copies_plane t e out h =
+module _ (k : Cell) (a : Accepted (plane_cell k)) (t : PlaneType) (e : Ok t ≡ ok_or (plane_type k.cell_type) CellType) where
+  -- the type is the one that was read
+  passed_as : Passed 2 (plane_nodes t) (λ c. polygon_of (plane_corners t (length c))) k.conn k.coords (polygons_of (plane_cell k))
+  passed_as =
       let q = plane_read k (polygons_of (plane_cell k)) a in
-      let n = plane_corners q.kind (length k.conn) in
+      subst (λ t. Passed 2 (plane_nodes t) (λ c. polygon_of (plane_corners t (length c))) k.conn k.coords (polygons_of (plane_cell k))) (same q.known e) q.passed
+
+  pub plane_few_corners : plane_corners t (length k.conn) ≤ 256
+  plane_few_corners = plane_few t (length k.conn) passed_as.allowed
+
+  pub copies_plane : (ps : List ℕ) (out : List Float) → ps ≡ flatten (polygon_of (plane_corners t (length k.conn)))
+      → 2 * corners_of (plane_cell k) ≤ length out → Copies 2 k.conn k.coords ps out
+  copies_plane ps out q h =
+      let n = plane_corners t (length k.conn) in
       let m : length (flatten (polygon_of n)) ≡ corners_of (plane_cell k)
-      = polygons_size 2 k.conn k.coords (polygon_of n) ∙ ap (λ l. length (flatten l)) (sym q.passed.are) in
-      subst (λ t. CopiesPolygon k.conn k.coords (plane_corners t (length k.conn)) out) (same q.known e)
-      (record {
-        few = plane_few q.kind (length k.conn) q.passed.allowed;
-        copies =
-            record {
-              wide = omega arith;
-              inside = polygon_below (length k.conn) n (corners_within q.kind (length k.conn) q.passed.allowed);
-              all_are_rows = q.passed.all_are_rows;
-              room = omega arith;
-            };
+      = polygons_size 2 k.conn k.coords (polygon_of n) ∙ ap (λ l. length (flatten l)) (sym passed_as.are) in
+      copies_at q (record {
+        wide = omega arith;
+        inside = polygon_below (length k.conn) n (corners_within t (length k.conn) passed_as.allowed);
+        all_are_rows = passed_as.all_are_rows;
+        room = omega arith;
       })
 
-  pub plane_polygons : (t : PlaneType) → Ok t ≡ ok_or (plane_type k.cell_type) CellType
-      → polygons 2 k.conn k.coords (polygon_of (plane_corners t (length k.conn))) ≡ polygons_of (plane_cell k)
-  plane_polygons t e =
-      let q = plane_read k (polygons_of (plane_cell k)) a in
-      ap (λ t. polygons 2 k.conn k.coords (polygon_of (plane_corners t (length k.conn)))) (sym (same q.known e)) ∙ sym q.passed.are
+  pub plane_copied : (ps : List ℕ) (out out' : List Float) → ps ≡ flatten (polygon_of (plane_corners t (length k.conn)))
+      → out' ≡ over (gathered 2 k.conn k.coords ps) out → CopiedPolygon (polygons_of (plane_cell k)) out out'
+  plane_copied ps out out' q h =
+      rw passed_as.are (record { coords = h ∙ corners_copied 2 k.conn k.coords (polygon_of (plane_corners t (length k.conn))) ps out q })

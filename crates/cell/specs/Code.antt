@@ -3,11 +3,13 @@ use Rattle.std.specs.Prelude.{ℕ, ◌*◌, ◌/◌, ◌%◌, ◌≤◌, ◌<◌
 use mathlib.Core.List.{List, [], ◌∷◌, map, flatten}
 use Rattle.rows.specs.Rows.{ends_from}
 use Rattle.rows.specs.Outcome.{Outcome, found, unless}
-use Rattle.cell.specs.Faces.{Face, polygon_of}
+use Rattle.cell.specs.Faces.{Face}
 use Rattle.cell.specs.Types.{allow}
 use Rattle.cell.specs.Read.{corner, are_rows, polygons, Polygon, Cell, Copied}
 use Rattle.cell.specs.declared.types.Nodes.{Nodes}
+use Rattle.cell.specs.declared.FaceList.{FaceList}
 use Rattle.cell.specs.declared.Kept.{Kept}
+use Rattle.cell.specs.declared.Listing.{Listing}
 
 -- ---- positions of the connectivity
 
@@ -16,12 +18,17 @@ unfoldable pub below : ℕ → List ℕ → Bool
 below n [] = true
 below n (p ∷ ps) = ltb p n && below n ps
 
--- a listing of faces: m positions in `corners`, the faces one after the other, and the f faces' ends
-pub record Listed (fs : List Face) (m f : ℕ) (corners ends : List ℕ) : Type 0 where
-  pub positions : take m corners ≡ flatten fs
-  pub places : take f ends ≡ ends_from 0 fs
-  pub room : m ≤ length corners
-  pub space : f ≤ length ends
+-- the faces fs in a row
+pub record Lists (fs : List Face) (l : FaceList) : Type 0 where
+  pub corners : l.corners.now ≡ flatten fs
+  pub ends : l.ends.now ≡ ends_from 0 fs
+
+-- a listing of the faces fs at the start of its arrays
+pub record Listed (fs : List Face) (l : Listing) : Type 0 where
+  pub positions : take l.kept.corners l.corners ≡ flatten fs
+  pub places : take l.kept.faces l.ends ≡ ends_from 0 fs
+  pub room : l.kept.corners ≤ length l.corners
+  pub space : l.kept.faces ≤ length l.ends
 
 -- the coordinates of the nodes at the positions ps, in a row
 abbrev pub gathered : ℕ → List ℕ → List Float → List ℕ → List Float
@@ -61,16 +68,11 @@ pub record CopiesFaces (c : List ℕ) (xs : List Float) (fs : List Face) (out : 
   pub copies : Copies 3 c xs (flatten fs) out
   pub space : length fs ≤ length ends
 
--- and of a polygon of n corners
-pub record CopiesPolygon (c : List ℕ) (xs : List Float) (n : ℕ) (out : List Float) : Type 0 where
-  pub few : n ≤ 256
-  pub copies : Copies 2 c xs (flatten (polygon_of n)) out
-
--- what copying the faces whose corners stand at the positions ps and which end at es needs
-pub record PutsFaces (ps es c : List ℕ) (xs out : List Float) (ends : List ℕ) : Type 0 where
-  pub copies : Copies 3 c xs ps out
-  pub space : length es ≤ length ends
+-- what copying the faces l needs
+pub record PutsFaces (l : FaceList) (c : List ℕ) (xs out : List Float) (ends : List ℕ) : Type 0 where
+  pub copies : Copies 3 c xs l.corners.now out
+  pub space : length l.ends.now ≤ length ends
 
 -- they are written
-pub record PutFaces (ps es c : List ℕ) (xs : List Float) (k : Kept) (out out' : List Float) (ends ends' : List ℕ) : Type 0 where
-  pub puts : (fs : List Face) → ps ≡ flatten fs → es ≡ ends_from 0 fs → Copied (polygons 3 c xs fs) k out out' ends ends'
+pub record PutFaces (l : FaceList) (c : List ℕ) (xs : List Float) (k : Kept) (out out' : List Float) (ends ends' : List ℕ) : Type 0 where
+  pub puts : (fs : List Face) → Lists fs l → Copied (polygons 3 c xs fs) k out out' ends ends'

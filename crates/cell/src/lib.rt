@@ -8,11 +8,11 @@ ghost use mathlib.Core.List.{flatten};
 ghost use Rattle.std.proofs.Math.Seq.{paste};
 ghost use Rattle.rows.specs.Refusals.{outcome_of};
 ghost use Rattle.rows.specs.Rows.{over, row};
-ghost use Rattle.cell.specs.Faces.{stretches, kept, faces_of, polygon_of};
+ghost use Rattle.cell.specs.Faces.{stretches, kept, faces_of};
 ghost use Rattle.cell.specs.Read.{polygons, space_cell, plane_cell, polygons_of, corners_of, face_count};
 ghost use Rattle.cell.specs.Read.{cell_of, Accepted, Copied, CopiedPolygon, Tested};
 ghost use Rattle.cell.specs.Code.{below, gathered, rows_tested, corners_tested, Listed, Testable};
-ghost use Rattle.cell.specs.Code.{Copies, CopiesFaces, CopiesPolygon, PutsFaces, PutFaces};
+ghost use Rattle.cell.specs.Code.{Copies, CopiesFaces, PutsFaces, PutFaces};
 
 use rows::Refusal;
 use types::{Nodes, PlaneType, Shape, SpaceType};
@@ -61,7 +61,8 @@ impl Cell<'_> {
     {
         let k = PlaneType::try_from(self.cell_type)?;
         let rows = self.rows::<2>(k.nodes())?;
-        test_polygon(k.corners(self.conn.len()), self.conn, rows)
+        let n = k.corners(self.conn.len());
+        test_corners(self.conn, &POSITIONS[..n], rows)
     }
 
     // The corners' coordinates of an accepted cell in the plane, written over the start of `out`.
@@ -71,7 +72,8 @@ impl Cell<'_> {
         ensures { CopiedPolygon (polygons_of (plane_cell (cell_of self.now))) out.old out.new }
     {
         let k = PlaneType::try_from(self.cell_type).unwrap();
-        copy_polygon(k.corners(self.conn.len()), self.conn, self.coords, out)
+        let n = k.corners(self.conn.len());
+        copy_rows::<2>(self.conn, self.coords, &POSITIONS[..n], out)
     }
 
     // Refusals 2 and 3 of a type with so many nodes, or how many rows of W coordinates there are.
@@ -95,37 +97,14 @@ fn test_faces(s: Shape, conn: &[u64], rows: usize) -> Result<usize, Refusal>
     ensures { outcome_of result ≡ corners_tested conn.now rows (flatten (faces_of s conn.now)) }
 {
     match s {
-        Shape::Tet => test_corners(conn, &TET, rows),
-        Shape::Wedge => test_corners(conn, &WEDGE, rows),
-        Shape::Hex => test_corners(conn, &HEX, rows),
-        Shape::Phed => test_phed(conn, rows),
+        Shape::Tet => test_corners(conn, TET.corners, rows),
+        Shape::Wedge => test_corners(conn, WEDGE.corners, rows),
+        Shape::Hex => test_corners(conn, HEX.corners, rows),
+        Shape::Phed => {
+            let listing = list_phed(conn);
+            test_corners(conn, &listing.corners[..listing.kept.corners], rows)
+        }
     }
-}
-
-// The same of a polyhedron.
-fn test_phed(conn: &[u64], rows: usize) -> Result<usize, Refusal>
-    requires { Testable conn.now (kept (stretches 0 conn.now)) }
-    ensures { outcome_of result ≡ corners_tested conn.now rows
-        (flatten (kept (stretches 0 conn.now))) }
-{
-    let mut corners = [0u8; 256];
-    let mut ends = [0usize; 85];
-    let l = list_phed(conn, &mut corners, &mut ends);
-    let m = l.corners;
-    test_corners(conn, &corners[..m], rows)
-}
-
-// The same of a polygon, whose corners are its first n nodes.
-fn test_polygon(n: usize, conn: &[u64], rows: usize) -> Result<usize, Refusal>
-    requires { (n ≤ length conn.now) × (n ≤ 256) }
-    ensures { outcome_of result ≡ corners_tested conn.now rows (flatten (polygon_of n)) }
-{
-    if n <= 4 {
-        return test_corners(conn, &RING[..n], rows);
-    }
-    let mut corners = [0u8; 256];
-    list_pgon(n, &mut corners);
-    test_corners(conn, &corners[..n], rows)
 }
 
 // Refusal 4, or how many corners these are.
@@ -154,89 +133,99 @@ fn copy_faces(
         out.old out.new face_ends.old face_ends.new }
 {
     match s {
-        Shape::Tet => put_faces(&TET, &TET_ENDS, conn, coords, out, face_ends),
-        Shape::Wedge => put_faces(&WEDGE, &WEDGE_ENDS, conn, coords, out, face_ends),
-        Shape::Hex => put_faces(&HEX, &HEX_ENDS, conn, coords, out, face_ends),
-        Shape::Phed => copy_phed(conn, coords, out, face_ends),
+        Shape::Tet => put_faces(TET, conn, coords, out, face_ends),
+        Shape::Wedge => put_faces(WEDGE, conn, coords, out, face_ends),
+        Shape::Hex => put_faces(HEX, conn, coords, out, face_ends),
+        Shape::Phed => {
+            let listing = list_phed(conn);
+            let faces = FaceList {
+                corners: &listing.corners[..listing.kept.corners],
+                ends: &listing.ends[..listing.kept.faces],
+            };
+            put_faces(faces, conn, coords, out, face_ends)
+        }
     }
 }
 
-// The same of a polyhedron.
-fn copy_phed(conn: &[u64], coords: &[f64], out: &mut [f64], face_ends: &mut [usize]) -> Kept
-    requires { CopiesFaces conn.now coords.now (kept (stretches 0 conn.now)) out.old face_ends.old }
-    ensures { Copied (polygons 3 conn.now coords.now (kept (stretches 0 conn.now))) result
-        out.old out.new face_ends.old face_ends.new }
-{
-    let mut corners = [0u8; 256];
-    let mut ends = [0usize; 85];
-    let l = list_phed(conn, &mut corners, &mut ends);
-    let m = l.corners;
-    let f = l.faces;
-    put_faces(&corners[..m], &ends[..f], conn, coords, out, face_ends)
-}
-
-// The same of a polygon, whose corners are its first n nodes.
-fn copy_polygon(n: usize, conn: &[u64], coords: &[f64], out: &mut [f64])
-    requires { CopiesPolygon conn.now coords.now n out.old }
-    ensures { CopiedPolygon (polygons 2 conn.now coords.now (polygon_of n)) out.old
-        out.new }
-{
-    if n <= 4 {
-        return copy_rows::<2>(conn, coords, &RING[..n], out);
-    }
-    let mut corners = [0u8; 256];
-    list_pgon(n, &mut corners);
-    copy_rows::<2>(conn, coords, &corners[..n], out)
-}
-
-// The corners at these positions, and the faces that end here among them.
+// These faces.
 fn put_faces(
-    corners: &[u8],
-    ends: &[usize],
+    faces: FaceList,
     conn: &[u64],
     coords: &[f64],
     out: &mut [f64],
     face_ends: &mut [usize],
 ) -> Kept
-    requires { PutsFaces corners.now ends.now conn.now coords.now out.old face_ends.old }
-    ensures { PutFaces corners.now ends.now conn.now coords.now result
+    requires { PutsFaces faces conn.now coords.now out.old face_ends.old }
+    ensures { PutFaces faces.entry conn.now coords.now result
         out.old out.new face_ends.old face_ends.new }
 {
-    copy_rows::<3>(conn, coords, corners, out);
-    face_ends[..ends.len()].copy_from_slice(ends);
+    copy_rows::<3>(conn, coords, faces.corners, out);
+    face_ends[..faces.ends.len()].copy_from_slice(faces.ends);
     Kept {
-        corners: corners.len(),
-        faces: ends.len(),
+        corners: faces.corners.len(),
+        faces: faces.ends.len(),
     }
 }
 
-// Each shape's faces, as positions in the connectivity in a row, and where each face ends among them.
-const TET: [u8; 12] = [0, 1, 3, 1, 2, 3, 2, 0, 3, 0, 2, 1];
+// Faces in a row: their corners, as positions in the connectivity, and where each ends among them.
+#[derive(Clone, Copy)]
+struct FaceList<'a> {
+    corners: &'a [u8],
+    ends: &'a [usize],
+}
 
-const TET_ENDS: [usize; 4] = [3, 6, 9, 12];
+const TET: FaceList = FaceList {
+    corners: &[0, 1, 3, 1, 2, 3, 2, 0, 3, 0, 2, 1],
+    ends: &[3, 6, 9, 12],
+};
 
-const WEDGE: [u8; 18] = [0, 2, 1, 3, 4, 5, 0, 1, 4, 3, 1, 2, 5, 4, 2, 0, 3, 5];
+const WEDGE: FaceList = FaceList {
+    corners: &[0, 2, 1, 3, 4, 5, 0, 1, 4, 3, 1, 2, 5, 4, 2, 0, 3, 5],
+    ends: &[3, 6, 10, 14, 18],
+};
 
-const WEDGE_ENDS: [usize; 5] = [3, 6, 10, 14, 18];
+const HEX: FaceList = FaceList {
+    corners: &[
+        0, 3, 2, 1, 4, 5, 6, 7, 0, 1, 5, 4, 2, 3, 7, 6, 1, 2, 6, 5, 3, 0, 4, 7,
+    ],
+    ends: &[4, 8, 12, 16, 20, 24],
+};
 
-const HEX: [u8; 24] = [
-    0, 3, 2, 1, 4, 5, 6, 7, 0, 1, 5, 4, 2, 3, 7, 6, 1, 2, 6, 5, 3, 0, 4, 7,
+// The positions in a connectivity; the first n are the corners of a polygon.
+const POSITIONS: [u8; 256] = [
+    0, 1, 2, 3, 4, 5, 6, 7, 8, 9, 10, 11, 12, 13, 14, 15, 16, 17, 18, 19, 20, 21, 22, 23, 24, 25,
+    26, 27, 28, 29, 30, 31, 32, 33, 34, 35, 36, 37, 38, 39, 40, 41, 42, 43, 44, 45, 46, 47, 48, 49,
+    50, 51, 52, 53, 54, 55, 56, 57, 58, 59, 60, 61, 62, 63, 64, 65, 66, 67, 68, 69, 70, 71, 72, 73,
+    74, 75, 76, 77, 78, 79, 80, 81, 82, 83, 84, 85, 86, 87, 88, 89, 90, 91, 92, 93, 94, 95, 96, 97,
+    98, 99, 100, 101, 102, 103, 104, 105, 106, 107, 108, 109, 110, 111, 112, 113, 114, 115, 116,
+    117, 118, 119, 120, 121, 122, 123, 124, 125, 126, 127, 128, 129, 130, 131, 132, 133, 134, 135,
+    136, 137, 138, 139, 140, 141, 142, 143, 144, 145, 146, 147, 148, 149, 150, 151, 152, 153, 154,
+    155, 156, 157, 158, 159, 160, 161, 162, 163, 164, 165, 166, 167, 168, 169, 170, 171, 172, 173,
+    174, 175, 176, 177, 178, 179, 180, 181, 182, 183, 184, 185, 186, 187, 188, 189, 190, 191, 192,
+    193, 194, 195, 196, 197, 198, 199, 200, 201, 202, 203, 204, 205, 206, 207, 208, 209, 210, 211,
+    212, 213, 214, 215, 216, 217, 218, 219, 220, 221, 222, 223, 224, 225, 226, 227, 228, 229, 230,
+    231, 232, 233, 234, 235, 236, 237, 238, 239, 240, 241, 242, 243, 244, 245, 246, 247, 248, 249,
+    250, 251, 252, 253, 254, 255,
 ];
 
-const HEX_ENDS: [usize; 6] = [4, 8, 12, 16, 20, 24];
-
-// The positions of the corners of a triangle or a quadrilateral.
-const RING: [u8; 4] = [0, 1, 2, 3];
+// The faces of a polyhedron; the rest of each array is scratch.
+#[derive(Drop)]
+struct Listing {
+    corners: [u8; 256],
+    ends: [usize; 85],
+    kept: Kept,
+}
 
 // The entry of a polyhedron that ends a face.
 const SEPARATOR: u64 = 0xffff_ffff_ffff_ffff;
 
 // The kept faces of a polyhedron: the positions between separators, without faces of under three.
-fn list_phed(conn: &[u64], corners: &mut [u8; 256], ends: &mut [usize; 85]) -> Kept
-    requires { (length conn.now ≤ 256) × (length corners.old ≡ 256) × (length ends.old ≡ 85) }
-    ensures { Listed (kept (stretches 0 conn.now)) result.corners result.faces corners.new
-        ends.new }
+fn list_phed(conn: &[u64]) -> Listing
+    requires { length conn.now ≤ 256 }
+    ensures { Listed (kept (stretches 0 conn.now)) result }
 {
+    let mut corners = [0u8; 256];
+    let mut ends = [0usize; 85];
     let mut n = 0;
     let mut start = 0;
     let mut f = 0;
@@ -253,25 +242,18 @@ fn list_phed(conn: &[u64], corners: &mut [u8; 256], ends: &mut [usize; 85]) -> K
         }
     }
     if n - start < 3 {
-        return Kept {
-            corners: start,
+        n = start;
+    } else {
+        ends[f] = n;
+        f += 1;
+    }
+    Listing {
+        corners,
+        ends,
+        kept: Kept {
+            corners: n,
             faces: f,
-        };
-    }
-    ends[f] = n;
-    Kept {
-        corners: n,
-        faces: f + 1,
-    }
-}
-
-// The positions of the corners of a polygon with n nodes.
-fn list_pgon(n: usize, corners: &mut [u8; 256])
-    requires { (n ≤ 256) × (length corners.old ≡ 256) }
-    ensures { (n ≤ length corners.new) × (take n corners.new ≡ flatten (polygon_of n)) }
-{
-    for i in 0..n {
-        corners[i] = i as u8;
+        },
     }
 }
 

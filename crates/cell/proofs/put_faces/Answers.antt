@@ -9,7 +9,7 @@ pub returns : goal.returns
 returns c =
     let g = c.args in
     record {
-      puts = λ fs p t.
-          copied g.conn.now g.coords.now fs _ _ p t _ _ _ _ c.copy_rows.ensures
-          (ap (λ l. l ++ drop (length g.ends.now) g.face_ends.now) c.copy_from_slice.ensures.after);
+      puts = λ fs l.
+          copied g.conn.now g.coords.now l _ _ _ _ c.copy_rows.ensures
+          (ap (λ l. l ++ drop (length g.faces.ends.now) g.face_ends.now) c.copy_from_slice.ensures.after);
     }

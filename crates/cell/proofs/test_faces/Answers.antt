@@ -1,5 +1,10 @@
 -- `test_faces` meets its contract: the tables are the definition's faces in a row. Assumes nothing.
+use mathlib.Core.Path.{sym, ap, ◌∙◌, subst}
 use mathlib.Core.List.{flatten}
+use lib.Dec.{T}
+use lib.ListN.{length}
+use lib.Seq.{length-take-le}
+use Rattle.cell.specs.Code.{below, corners_tested}
 use Rattle.cell.proofs.test_faces.Goals as goal
 
 pub test_corners-requires : goal.test_corners-requires
@@ -14,9 +19,6 @@ pub test_corners-requires-in-Hex : goal.test_corners-requires-in-Hex
 unfolding flatten
 test_corners-requires-in-Hex c = (rw c.in-Hex.is at c.requires).inside
 
-pub test_phed-requires : goal.test_phed-requires
-test_phed-requires c = rw c.in-Phed.is at c.requires
-
 pub returns-in-Tet : goal.returns-in-Tet
 unfolding flatten
 returns-in-Tet c = rw c.in-Tet.is c.test_corners.ensures
@@ -28,6 +30,3 @@ returns-in-Wedge c = rw c.in-Wedge.is c.test_corners-in-Wedge.ensures
 pub returns-in-Hex : goal.returns-in-Hex
 unfolding flatten
 returns-in-Hex c = rw c.in-Hex.is c.test_corners-in-Hex.ensures
-
-pub returns-in-Phed : goal.returns-in-Phed
-returns-in-Phed c = rw c.in-Phed.is c.test_phed.ensures
