@@ -224,19 +224,25 @@ fn list_phed(conn: &[u64]) -> Listing
     requires { length conn.now ≤ 256 }
     ensures { Listed (kept (stretches 0 conn.now)) result }
 {
-    let mut corners = [0u8; 256];
-    let mut ends = [0usize; 85];
+    let mut listing = Listing {
+        corners: [0; 256],
+        ends: [0; 85],
+        kept: Kept {
+            corners: 0,
+            faces: 0,
+        },
+    };
     let mut n = 0;
     let mut start = 0;
     let mut f = 0;
     for (i, node) in conn.iter().enumerate() {
         if *node != SEPARATOR {
-            corners[n] = i as u8;
+            listing.corners[n] = i as u8;
             n += 1;
         } else if n - start < 3 {
             n = start;
         } else {
-            ends[f] = n;
+            listing.ends[f] = n;
             f += 1;
             start = n;
         }
@@ -244,17 +250,14 @@ fn list_phed(conn: &[u64]) -> Listing
     if n - start < 3 {
         n = start;
     } else {
-        ends[f] = n;
+        listing.ends[f] = n;
         f += 1;
     }
-    Listing {
-        corners,
-        ends,
-        kept: Kept {
-            corners: n,
-            faces: f,
-        },
-    }
+    listing.kept = Kept {
+        corners: n,
+        faces: f,
+    };
+    listing
 }
 
 // The corners' rows, one after the other.
