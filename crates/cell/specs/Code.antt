@@ -9,7 +9,6 @@ use Rattle.cell.specs.Read.{corner, are_rows, polygons, Polygon, Cell, Copied}
 use Rattle.cell.specs.declared.types.Nodes.{Nodes}
 use Rattle.cell.specs.declared.FaceList.{FaceList}
 use Rattle.cell.specs.declared.Kept.{Kept}
-use Rattle.cell.specs.declared.Listing.{Listing}
 
 -- ---- positions of the connectivity
 
@@ -23,12 +22,12 @@ pub record Lists (fs : List Face) (l : FaceList) : Type 0 where
   pub corners : l.corners.now ≡ flatten fs
   pub ends : l.ends.now ≡ ends_from 0 fs
 
--- a listing of the faces fs at the start of its arrays
-pub record Listed (fs : List Face) (l : Listing) : Type 0 where
-  pub positions : take l.kept.corners l.corners ≡ flatten fs
-  pub places : take l.kept.faces l.ends ≡ ends_from 0 fs
-  pub room : l.kept.corners ≤ length l.corners
-  pub space : l.kept.faces ≤ length l.ends
+-- a listing of the faces fs at the start of two buffers
+pub record Listed (fs : List Face) (k : Kept) (corners ends : List ℕ) : Type 0 where
+  pub positions : take k.corners corners ≡ flatten fs
+  pub places : take k.faces ends ≡ ends_from 0 fs
+  pub room : k.corners ≤ length corners
+  pub space : k.faces ≤ length ends
 
 -- the coordinates of the nodes at the positions ps, in a row
 abbrev pub gathered : ℕ → List ℕ → List Float → List ℕ → List Float

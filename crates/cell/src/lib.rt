@@ -101,8 +101,10 @@ fn test_faces(s: Shape, conn: &[u64], rows: usize) -> Result<usize, Refusal>
         Shape::Wedge => test_corners(conn, WEDGE.corners, rows),
         Shape::Hex => test_corners(conn, HEX.corners, rows),
         Shape::Phed => {
-            let listing = list_phed(conn);
-            test_corners(conn, &listing.corners[..listing.kept.corners], rows)
+            let mut corners = [0; 256];
+            let mut ends = [0; 85];
+            let kept = list_phed(conn, &mut corners, &mut ends);
+            test_corners(conn, &corners[..kept.corners], rows)
         }
     }
 }
@@ -137,10 +139,12 @@ fn copy_faces(
         Shape::Wedge => put_faces(WEDGE, conn, coords, out, face_ends),
         Shape::Hex => put_faces(HEX, conn, coords, out, face_ends),
         Shape::Phed => {
-            let listing = list_phed(conn);
+            let mut corners = [0; 256];
+            let mut ends = [0; 85];
+            let kept = list_phed(conn, &mut corners, &mut ends);
             let faces = FaceList {
-                corners: &listing.corners[..listing.kept.corners],
-                ends: &listing.ends[..listing.kept.faces],
+                corners: &corners[..kept.corners],
+                ends: &ends[..kept.faces],
             };
             put_faces(faces, conn, coords, out, face_ends)
         }
@@ -208,41 +212,25 @@ const POSITIONS: [u8; 256] = [
     250, 251, 252, 253, 254, 255,
 ];
 
-// The faces of a polyhedron; the rest of each array is scratch.
-#[derive(Drop)]
-struct Listing {
-    corners: [u8; 256],
-    ends: [usize; 85],
-    kept: Kept,
-}
-
 // The entry of a polyhedron that ends a face.
 const SEPARATOR: u64 = 0xffff_ffff_ffff_ffff;
 
 // The kept faces of a polyhedron: the positions between separators, without faces of under three.
-fn list_phed(conn: &[u64]) -> Listing
-    requires { length conn.now ≤ 256 }
-    ensures { Listed (kept (stretches 0 conn.now)) result }
+fn list_phed(conn: &[u64], corners: &mut [u8; 256], ends: &mut [usize; 85]) -> Kept
+    requires { (length conn.now ≤ 256) × (length corners.old ≡ 256) × (length ends.old ≡ 85) }
+    ensures { Listed (kept (stretches 0 conn.now)) result corners.new ends.new }
 {
-    let mut listing = Listing {
-        corners: [0; 256],
-        ends: [0; 85],
-        kept: Kept {
-            corners: 0,
-            faces: 0,
-        },
-    };
     let mut n = 0;
     let mut start = 0;
     let mut f = 0;
     for (i, node) in conn.iter().enumerate() {
         if *node != SEPARATOR {
-            listing.corners[n] = i as u8;
+            corners[n] = i as u8;
             n += 1;
         } else if n - start < 3 {
             n = start;
         } else {
-            listing.ends[f] = n;
+            ends[f] = n;
             f += 1;
             start = n;
         }
@@ -250,14 +238,13 @@ fn list_phed(conn: &[u64]) -> Listing
     if n - start < 3 {
         n = start;
     } else {
-        listing.ends[f] = n;
+        ends[f] = n;
         f += 1;
     }
-    listing.kept = Kept {
+    Kept {
         corners: n,
         faces: f,
-    };
-    listing
+    }
 }
 
 // The corners' rows, one after the other.

@@ -20,7 +20,7 @@ put_faces-requires-in-Hex c = puts _ _ {fs = hex} (record { corners = refl; ends
 
 pub put_faces-requires-in-Phed : goal.put_faces-requires-in-Phed
 put_faces-requires-in-Phed c =
-    let l = c.list_phed-listing.ensures in puts _ _ (record { corners = l.positions; ends = l.places }) _ _ (rw c.in-Phed.is at c.requires)
+    let l = c.list_phed-kept.ensures in puts _ _ (record { corners = l.positions; ends = l.places }) _ _ (rw c.in-Phed.is at c.requires)
 
 pub returns-in-Tet : goal.returns-in-Tet
 unfolding flatten ends_from

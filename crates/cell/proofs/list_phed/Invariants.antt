@@ -3,4 +3,4 @@ use Rattle.cell.proofs.Polyhedron.{Going}
 use Rattle.cell.proofs.list_phed.Given as goal
 
 abbrev pub invariant-loop-i : goal.invariant-loop-i
-invariant-loop-i l = Going l.conn l.listing.corners l.listing.ends l.n l.start l.f l.i
+invariant-loop-i l = Going l.conn l.corners l.ends l.n l.start l.f l.i
