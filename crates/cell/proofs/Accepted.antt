@@ -3,14 +3,14 @@
 use mathlib.Core.Path.{◌≡◌, refl, sym, ap, ◌∙◌, subst}
 use mathlib.Core.List.{List, map, flatten}
 use mathlib.Core.Bool.{Bool, true, false}
-use Prim.Native.Nat.{ℕ, ◌*◌, ◌/◌, ◌≤◌}
+use Prim.Native.Nat.{ℕ, ◌*◌, ◌≤◌}
 use native.Mathlib.Omega.{arith}
 use lib.Ieee.{Float}
 use lib.ListN.{length}
 use Rattle.std.proofs.Common.{Option, Some, None, Result, Ok, Err}
 use Rattle.std.specs.Prelude.{ok_or, IsOk}
 use Rattle.std.specs.Result.{IsErrAnd}
-use Rattle.rows.specs.Rows.{ends_from, over}
+use Rattle.rows.specs.Rows.{over}
 use Rattle.rows.specs.Outcome.{Outcome, refused, found, and_then, unless}
 use Rattle.rows.proofs.Lists.{flatten_map, ends_map, length_ends}
 use Rattle.cell.specs.Types.{allow, space_nodes, space_type, shape_of, plane_nodes, plane_type, plane_corners}

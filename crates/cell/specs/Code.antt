@@ -1,6 +1,7 @@
 -- What the clauses of the parts of the reading cite. Definitions only.
-use Rattle.std.specs.Prelude.{ℕ, ◌*◌, ◌/◌, ◌%◌, ◌≤◌, ◌<◌, ◌≡◌, Bool, true, ◌&&◌, T, eqb, ltb, Float, length, take}
-use mathlib.Core.List.{List, [], ◌∷◌, map, flatten}
+use Rattle.std.specs.Prelude.{ℕ, ◌*◌, ◌/◌, ◌%◌, ◌≤◌, ◌<◌, ◌≡◌, T, eqb, Float, length, take}
+use Rattle.std.specs.List.{All}
+use mathlib.Core.List.{List, map, flatten}
 use Rattle.rows.specs.Rows.{ends_from}
 use Rattle.rows.specs.Outcome.{Outcome, found, unless}
 use Rattle.cell.specs.Faces.{Face}
@@ -12,10 +13,9 @@ use Rattle.cell.specs.declared.Kept.{Kept}
 
 -- ---- positions of the connectivity
 
--- whether every position is below n
-unfoldable pub below : ℕ → List ℕ → Bool
-below n [] = true
-below n (p ∷ ps) = ltb p n && below n ps
+-- every position is below n
+abbrev pub Below : ℕ → List ℕ → Type 0
+Below n ps = All (λ p. p < n) ps
 
 -- the faces fs in a row
 pub record Lists (fs : List Face) (l : FaceList) : Type 0 where
@@ -42,7 +42,7 @@ read_faces w c xs fs = unless 4 (are_rows c (length xs / w) (flatten fs)) (found
 -- what a test of faces needs: few nodes, and positions of the connectivity
 pub record Testable (c : List ℕ) (fs : List Face) : Type 0 where
   pub few : length c ≤ 256
-  pub inside : T (below (length c) (flatten fs))
+  pub inside : Below (length c) (flatten fs)
 
 -- what is told of a cell whose type has n nodes: refusals 2 and 3, or how many rows of w coordinates it has
 abbrev pub rows_tested : ℕ → Nodes → Cell → Outcome ℕ
@@ -57,7 +57,7 @@ corners_tested c rows ps = unless 4 (are_rows c rows ps) (found (length ps))
 -- what copying corners needs: positions of the connectivity, each of which is a row of w, and room
 pub record Copies (w : ℕ) (c : List ℕ) (xs : List Float) (ps : List ℕ) (out : List Float) : Type 0 where
   pub wide : 0 < w
-  pub inside : T (below (length c) ps)
+  pub inside : Below (length c) ps
   pub all_are_rows : T (are_rows c (length xs / w) ps)
   pub room : w * length ps ≤ length out
 

@@ -3,7 +3,7 @@
 
 pub mod types;
 
-ghost use Rattle.std.specs.Prelude.{◌≡◌, ◌+◌, ◌*◌, ◌/◌, ◌<◌, ◌≤◌, T, length, get_or, take};
+ghost use Rattle.std.specs.Prelude.{◌≡◌, ◌+◌, ◌*◌, ◌/◌, ◌<◌, ◌≤◌, length, get_or, take};
 ghost use mathlib.Core.List.{flatten};
 ghost use Rattle.std.proofs.Math.Seq.{paste};
 ghost use Rattle.rows.specs.Refusals.{outcome_of};
@@ -11,7 +11,7 @@ ghost use Rattle.rows.specs.Rows.{over, row};
 ghost use Rattle.cell.specs.Faces.{stretches, kept, faces_of};
 ghost use Rattle.cell.specs.Read.{polygons, space_cell, plane_cell, polygons_of, corners_of, face_count};
 ghost use Rattle.cell.specs.Read.{cell_of, Accepted, Copied, CopiedPolygon, Tested};
-ghost use Rattle.cell.specs.Code.{below, gathered, rows_tested, corners_tested, Listed, Testable};
+ghost use Rattle.cell.specs.Code.{Below, gathered, rows_tested, corners_tested, Listed, Testable};
 ghost use Rattle.cell.specs.Code.{Copies, CopiesFaces, PutsFaces, PutFaces};
 
 use rows::Refusal;
@@ -111,7 +111,7 @@ fn test_faces(s: Shape, conn: &[u64], rows: usize) -> Result<usize, Refusal>
 
 // Refusal 4, or how many corners these are.
 fn test_corners(conn: &[u64], corners: &[u8], rows: usize) -> Result<usize, Refusal>
-    requires { T (below (length conn.now) corners.now) }
+    requires { Below (length conn.now) corners.now }
     ensures { outcome_of result ≡ corners_tested conn.now rows corners.now }
 {
     for p in corners {

@@ -1,10 +1,9 @@
 -- `copy_row` meets its contract. Assumes nothing.
-use mathlib.Core.Path.{◌≡◌, sym, ap, ◌∙◌}
-use Prim.Native.Nat.{◌+◌, ◌*◌}
+use Prim.Native.Nat.{◌*◌}
 use native.Mathlib.Numerals.{add-one}
 use native.Mathlib.Omega.{arith}
-use lib.ListN.{get_or, length-set}
-use lib.Seq.{paste, paste-suc}
+use lib.ListN.{length-set}
+use lib.Seq.{paste-suc}
 use Rattle.rows.specs.Rows.{row}
 use Rattle.cell.proofs.Gathering.{row_entry, row_size}
 use Rattle.cell.proofs.copy_row.Goals as goal

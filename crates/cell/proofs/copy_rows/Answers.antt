@@ -2,7 +2,6 @@
 use mathlib.Core.Path.{sym, subst}
 use Prim.Native.Nat.{◌/◌, ◌<◌}
 use lib.ListN.{length}
-use Rattle.cell.proofs.Inside.{below_at}
 use Rattle.cell.proofs.Gathering.{row_at, row_fits, filling_start, filling_step}
 use native.Mathlib.Omega.{arith}
 use Rattle.cell.proofs.copy_rows.Given.{Over}
@@ -16,9 +15,6 @@ is_row g c =
 
 pub loop-j-init : goal.loop-j-init
 loop-j-init g c = filling_start _ _ _ _ _
-
-pub node-requires : goal.node-requires
-node-requires g c = below_at _ _ c.loop-j.j c.requires.inside (omega arith)
 
 pub copy_row-requires-clause-from : goal.copy_row-requires-clause-from
 copy_row-requires-clause-from g c = row_fits g.row.W c.args.coords.now c.node.result (is_row g (goal.at.copy_row-requires-clause-from g c).After-node)

@@ -1,12 +1,8 @@
 -- `test_corners` meets its contract. Assumes nothing.
-use mathlib.Core.Path.{sym, ◌∙◌}
-use Rattle.cell.proofs.Inside.{below_at}
+use mathlib.Core.Path.{◌∙◌}
 use Rattle.cell.proofs.Gathering.{rows_stop, rows_step, rows_end}
 use native.Mathlib.Omega.{arith}
 use Rattle.cell.proofs.test_corners.Goals as goal
-
-pub node-requires : goal.node-requires
-node-requires c = below_at _ _ c.loop-p.p-index c.requires (omega arith)
 
 pub returns-then-rows-node : goal.returns-then-rows-node
 returns-then-rows-node c = simp (c.loop-p.invariant ∙ rows_stop _ _ _ c.loop-p.p-index (omega arith) (omega (arith, c.node.ensures)))

@@ -1,10 +1,5 @@
 -- `test_faces` meets its contract: the tables are the definition's faces in a row. Assumes nothing.
-use mathlib.Core.Path.{sym, ap, ◌∙◌, subst}
 use mathlib.Core.List.{flatten}
-use lib.Dec.{T}
-use lib.ListN.{length}
-use lib.Seq.{length-take-le}
-use Rattle.cell.specs.Code.{below, corners_tested}
 use Rattle.cell.proofs.test_faces.Goals as goal
 
 pub test_corners-requires : goal.test_corners-requires

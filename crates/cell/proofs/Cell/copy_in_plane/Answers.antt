@@ -1,11 +1,10 @@
 -- `Cell::copy_in_plane` meets its contract: an accepted cell has what copying needs. Assumes nothing.
-use mathlib.Core.Path.{◌≡◌, refl, sym, ◌∙◌}
+use mathlib.Core.Path.{refl, sym, ◌∙◌}
 use Rattle.cell.specs.Faces.{from}
 use Rattle.cell.specs.Read.{cell_of}
 use Rattle.cell.proofs.Accepted.{copies_plane, is_known, plane_copied, plane_few_corners}
 use Rattle.cell.proofs.Answers.{plane_read}
 use Rattle.cell.proofs.Polygon.{polygon_taken}
-use native.Mathlib.Omega.{arith}
 use Rattle.cell.proofs.Cell.copy_in_plane.Goals as goal
 
 pub unwrap-k-requires : goal.unwrap-k-requires

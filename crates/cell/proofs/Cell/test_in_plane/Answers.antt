@@ -1,5 +1,5 @@
 -- `Cell::test_in_plane` meets its contract: the refusals in order, by the laws that both widths share. Assumes nothing.
-use mathlib.Core.Path.{◌≡◌, refl, sym, ap, ◌∙◌}
+use mathlib.Core.Path.{refl, ap, ◌∙◌}
 use lib.ListN.{length}
 use Rattle.cell.specs.Types.{plane_nodes, plane_corners}
 use Rattle.cell.specs.Faces.{polygon_of}
@@ -21,6 +21,7 @@ returns-in_err-rows c =
     let k = c.in_ok-k.k in
     counts_told 2 typed_in_plane _ (cell_of c.args.self.now) c.in_ok-k.ensures (plane_nodes k) (λ c. polygon_of (plane_corners k (length c))) refl
     _ (rw c.nodes.ensures at c.in_err-rows.ensures) c.from_residual-in_err-rows.ensures.1
+
 pub test_corners-requires : goal.test_corners-requires
 unfolding from
 test_corners-requires c =

@@ -1,6 +1,5 @@
 -- `Cell::test_in_space` meets its contract: the refusals in order, by the laws that both widths share. Assumes nothing.
-use mathlib.Core.Path.{◌≡◌, refl, sym, ap, ◌∙◌}
-use lib.ListN.{length}
+use mathlib.Core.Path.{refl}
 use Rattle.cell.specs.Types.{space_nodes, shape_of}
 use Rattle.cell.specs.Faces.{faces_of}
 use Rattle.cell.specs.Read.{cell_of, typed_in_space}
