@@ -3,47 +3,90 @@
 use mathlib.Core.Path.{◌≡◌, refl, sym, ap, ◌∙◌, subst}
 use mathlib.Core.List.{List, map, flatten}
 use mathlib.Core.Bool.{Bool, true, false}
-use Prim.Native.Nat.{ℕ, ◌*◌, ◌/◌, ◌≤◌}
+use Prim.Native.Nat.{ℕ, ◌*◌, ◌≤◌}
 use native.Mathlib.Omega.{arith}
 use lib.Ieee.{Float}
 use lib.ListN.{length}
-use Rattle.rows.specs.Rows.{ends_from, over}
+use Rattle.std.proofs.Common.{Option, Some, None, Result, Ok, Err}
+use Rattle.std.specs.Prelude.{ok_or, IsOk}
+use Rattle.std.specs.Result.{IsErrAnd}
+use Rattle.rows.specs.Rows.{over}
 use Rattle.rows.specs.Outcome.{Outcome, refused, found, and_then, unless}
 use Rattle.rows.proofs.Lists.{flatten_map, ends_map, length_ends}
-use Rattle.cell.specs.Types.{allow, space_nodes, shape_of, shape_in, shape_numbered, plane_corners, corners_typed, corners_numbered}
+use Rattle.cell.specs.Types.{allow, space_nodes, space_type, shape_of, plane_nodes, plane_type, plane_corners}
 use Rattle.cell.specs.Faces.{Face, faces_of, polygon_of}
-use Rattle.cell.specs.Read.{corner, are_rows, polygons, Polygon, reading_told, Tested, Cell, space_cell, plane_cell}
-use Rattle.cell.specs.Read.{polygons_of, corners_of, face_count, Accepted, Copied}
-use Rattle.cell.specs.Code.{gathered, read_faces, corners_tested, Testable}
-use Rattle.cell.specs.Code.{Copies, CopiesFaces, CopiesPolygon, PutsFaces}
+use Rattle.cell.specs.Read.{corner, are_rows, polygons, Polygon, Typed, untyped, typed, read_as, Tested, Cell, space_cell, plane_cell}
+use Rattle.cell.specs.Read.{polygons_of, corners_of, face_count, Accepted, Copied, CopiedPolygon}
+use Rattle.cell.specs.Code.{gathered, rows_tested, corners_tested, Testable}
+use Rattle.cell.specs.Code.{Copies, CopiesFaces, Lists, PutsFaces}
+use Rattle.rows.specs.Refusals.{number, outcome_of}
+use Rattle.rows.specs.declared.Refusal.{Refusal}
+use Rattle.rows.specs.declared.Refusal.TheVariants.{CellType}
+use Rattle.cell.specs.declared.FaceList.{FaceList}
 use Rattle.cell.specs.declared.Kept.{Kept}
-use Rattle.cell.specs.declared.Reading.{Reading}
-use Rattle.cell.specs.declared.Reading.TheVariants.{Refused}
+use Rattle.cell.specs.declared.types.Nodes.{Nodes}
+use Rattle.cell.specs.declared.types.PlaneType.{PlaneType}
 use Rattle.cell.specs.declared.types.SpaceType.{SpaceType}
-use Rattle.cell.proofs.Answers.{polygons_size, polygons_count, space_read, plane_read}
+use Rattle.cell.proofs.Answers.{Passed, unknown_type, counted, polygons_size, polygons_count, space_read, plane_read}
 use Rattle.cell.proofs.Bounds.{corners_within, nodes_few, plane_few}
 use Rattle.cell.proofs.Inside.{inside}
 use Rattle.cell.proofs.Polygon.{polygon_below}
 
+-- ---- the type with a number, as the code finds it
+
+unknown : {A : Type 0} {o : Option A} {e : Refusal} → Err e ≡ ok_or o CellType → (o ≡ None) × (e ≡ CellType)
+unknown {o = None} h = (refl, cc)
+unknown {o = Some a} h = cc
+
+known : {A : Type 0} {o : Option A} {a : A} → Ok a ≡ ok_or o CellType → o ≡ Some a
+known {o = None} h = cc
+known {o = Some a} h = cc
+
+pub is_known : {A : Type 0} {o : Option A} {a : A} → o ≡ Some a → IsOk (ok_or o CellType)
+is_known e = rw e
+
+same : {A : Type 0} {a b : A} {o : Option A} → o ≡ Some a → Ok b ≡ ok_or o CellType → a ≡ b
+same e h = let k = known h in cc
+
 -- ---- the test
 
--- a refusal
-pub tells : {o : Outcome (List Polygon)} {k : ℕ} → o ≡ refused k → Tested o (Refused k)
-tells e = rw e (record { tells = refl })
+-- the refusal that a step makes is told
+refused_as : (o : Outcome (List Polygon)) (e : Refusal) (r : Result ℕ Refusal) → o ≡ refused (number e) → IsErrAnd r (λ x. x ≡ e) → Tested o r
+refused_as o e (Ok m) h p = absurd p
+refused_as o e (Err x) h p = rw (h, ← p) (record { tells = refl })
 
--- a test of the faces tells what their reading would
-told_faces : (w : ℕ) (c : List ℕ) (xs : List Float) (fs : List Face)
-    → corners_tested c (length xs / w) (flatten fs) ≡ and_then (read_faces w c xs fs) (λ ps. found (length (flatten ps)))
-told_faces w c xs fs = by_test (are_rows c (length xs / w) (flatten fs))
-  where
-    by_test : (b : Bool) → unless 4 b (found (length (flatten fs)))
-        ≡ and_then (unless 4 b (found (polygons w c xs fs))) (λ ps. found (length (flatten ps)))
-    by_test true = ap found (polygons_size w c xs fs)
-    by_test false = refl
+module _ {A : Type 0} (w : ℕ) (told : Option A → Typed) (o : Option A) (k : Cell) where
+  -- 1
+  pub type_told : {e : Refusal} {r : Result ℕ Refusal} → told None ≡ untyped → Err e ≡ ok_or o CellType → IsErrAnd r (λ x. x ≡ e)
+      → Tested (read_as w (told o) k.conn k.coords) r
+  type_told u h p =
+      let t = unknown h in
+      refused_as _ _ _
+      (ap (λ o. read_as w (told o) k.conn k.coords) t.0 ∙ unknown_type w k.conn k.coords _ u ∙ ap (λ e. refused (number e)) (sym t.1)) p
 
-pub faces_told : (w : ℕ) (c : List ℕ) (xs : List Float) (fs : List Face) {o : Outcome (List Polygon)} {r : Reading}
-    → o ≡ read_faces w c xs fs → reading_told r ≡ corners_tested c (length xs / w) (flatten fs) → Tested o r
-faces_told w c xs fs e h = rw e (record { tells = h ∙ told_faces w c xs fs })
+  module _ {a : A} (h : Ok a ≡ ok_or o CellType) (n : Nodes) (faces : List ℕ → List Face) (d : told (Some a) ≡ typed n faces) where
+    abbrev next : ℕ → Outcome (List Polygon)
+    next r = unless 4 (are_rows k.conn r (flatten (faces k.conn))) (found (polygons w k.conn k.coords (faces k.conn)))
+
+    read_on : (c : Outcome ℕ) → c ≡ rows_tested w n k → read_as w (told o) k.conn k.coords ≡ and_then c next
+    read_on c e =
+        ap (λ o. read_as w (told o) k.conn k.coords) (known h) ∙ ap (λ t. read_as w t k.conn k.coords) d ∙ counted w n faces k
+        ∙ ap (λ c. and_then c next) (sym e)
+
+    -- 2 and 3
+    pub counts_told : (e : Refusal) {r : Result ℕ Refusal} → refused (number e) ≡ rows_tested w n k → IsErrAnd r (λ x. x ≡ e)
+        → Tested (read_as w (told o) k.conn k.coords) r
+    counts_told e h p = refused_as _ e _ (read_on _ h) p
+
+    -- 4 and the answer
+    pub faces_told : {m : ℕ} {r : Result ℕ Refusal} → found m ≡ rows_tested w n k → outcome_of r ≡ corners_tested k.conn m (flatten (faces k.conn))
+        → Tested (read_as w (told o) k.conn k.coords) r
+    faces_told {m} h t = rw (read_on _ h) (record { tells = t ∙ by_test (are_rows k.conn m (flatten (faces k.conn))) })
+      where
+        by_test : (b : Bool) → unless 4 b (found (length (flatten (faces k.conn))))
+            ≡ and_then (unless 4 b (found (polygons w k.conn k.coords (faces k.conn)))) (λ ps. found (length (flatten ps)))
+        by_test true = ap found (polygons_size w k.conn k.coords (faces k.conn))
+        by_test false = refl
 
 pub testable : (k : SpaceType) (c : List ℕ) → allow (space_nodes k) (length c) ≡ true → Testable c (faces_of (shape_of k) c)
 testable k c a = record { few = nodes_few k (length c) a; inside = inside k c a }
@@ -60,35 +103,35 @@ pub copies_at : {w : ℕ} {c : List ℕ} {xs : List Float} {ps qs : List ℕ} {o
     → Copies w c xs ps out
 copies_at {w} {c} {xs} {out = out} e h = subst (λ l. Copies w c xs l out) (sym e) h
 
-module _ (c : List ℕ) (xs : List Float) (fs : List Face) (ps es : List ℕ) (p : ps ≡ flatten fs) (q : es ≡ ends_from 0 fs) where
-  pub puts : (out : List Float) (ends : List ℕ) → CopiesFaces c xs fs out ends → PutsFaces ps es c xs out ends
-  puts out ends h = record { copies = copies_at p h.copies; space = omega (arith, ap length q, length_ends 0 fs, h.space) }
+module _ (c : List ℕ) (xs : List Float) {fs : List Face} {l : FaceList} (h : Lists fs l) where
+  pub puts : (out : List Float) (ends : List ℕ) → CopiesFaces c xs fs out ends → PutsFaces l c xs out ends
+  puts out ends r = record { copies = copies_at h.corners r.copies; space = omega (arith, ap length h.ends, length_ends 0 fs, r.space) }
 
-  pub copied : (out out' : List Float) (ends ends' : List ℕ) → out' ≡ over (gathered 3 c xs ps) out → ends' ≡ over es ends
-      → Copied (polygons 3 c xs fs) (record { corners = length ps; faces = length es }) out out' ends ends'
+  pub copied : (out out' : List Float) (ends ends' : List ℕ) → out' ≡ over (gathered 3 c xs l.corners.now) out → ends' ≡ over l.ends.now ends
+      → Copied (polygons 3 c xs fs) (record { corners = length l.corners.now; faces = length l.ends.now }) out out' ends ends'
   copied out out' ends ends' f g =
       record {
         kept_is =
-            ap (λ m. record { corners = m; faces = length es }) (ap length p ∙ polygons_size 3 c xs fs)
+            ap (λ m. record { corners = m; faces = length l.ends.now }) (ap length h.corners ∙ polygons_size 3 c xs fs)
             ∙ ap {B = Kept} (λ f. record { corners = length (flatten (polygons 3 c xs fs)); faces = f })
-            (ap length q ∙ length_ends 0 fs ∙ polygons_count 3 c xs fs);
-        coords = f ∙ corners_copied 3 c xs fs ps out p;
-        places = g ∙ ap (λ l. over l ends) (q ∙ sym (ends_map (corner 3 c xs) 0 fs));
+            (ap length h.ends ∙ length_ends 0 fs ∙ polygons_count 3 c xs fs);
+        coords = f ∙ corners_copied 3 c xs fs l.corners.now out h.corners;
+        places = g ∙ ap (λ e. over e ends) (h.ends ∙ sym (ends_map (corner 3 c xs) 0 fs));
       }
 
 -- ---- what an accepted cell brings along
 
 module _ (k : Cell) (a : Accepted (space_cell k)) where
-  pub copies_space : (out : List Float) (ends : List ℕ) → 3 * corners_of (space_cell k) ≤ length out
-      → face_count (space_cell k) ≤ length ends
-      → CopiesFaces k.conn k.coords (faces_of (shape_numbered k.cell_type) k.conn) out ends
-  copies_space out ends h l =
+  pub copies_space : (t : SpaceType) → Ok t ≡ ok_or (space_type k.cell_type) CellType → (out : List Float) (ends : List ℕ)
+      → 3 * corners_of (space_cell k) ≤ length out → face_count (space_cell k) ≤ length ends
+      → CopiesFaces k.conn k.coords (faces_of (shape_of t) k.conn) out ends
+  copies_space t e out ends h l =
       let q = space_read k (polygons_of (space_cell k)) a in
       let fs = faces_of (shape_of q.kind) k.conn in
       let m : length (flatten fs) ≡ corners_of (space_cell k)
       = polygons_size 3 k.conn k.coords fs ∙ ap (λ l. length (flatten l)) (sym q.passed.are) in
       let f : length fs ≡ face_count (space_cell k) = polygons_count 3 k.conn k.coords fs ∙ ap length (sym q.passed.are) in
-      subst (λ o. CopiesFaces k.conn k.coords (faces_of (shape_in o) k.conn) out ends) (sym q.known)
+      subst (λ t. CopiesFaces k.conn k.coords (faces_of (shape_of t) k.conn) out ends) (same q.known e)
       (record {
         few = nodes_few q.kind (length k.conn) q.passed.allowed;
         copies =
@@ -101,33 +144,36 @@ module _ (k : Cell) (a : Accepted (space_cell k)) where
         space = omega arith;
       })
 
-  pub space_polygons : polygons 3 k.conn k.coords (faces_of (shape_numbered k.cell_type) k.conn) ≡ polygons_of (space_cell k)
-  space_polygons =
+  pub space_polygons : (t : SpaceType) → Ok t ≡ ok_or (space_type k.cell_type) CellType
+      → polygons 3 k.conn k.coords (faces_of (shape_of t) k.conn) ≡ polygons_of (space_cell k)
+  space_polygons t e =
       let q = space_read k (polygons_of (space_cell k)) a in
-      ap (λ o. polygons 3 k.conn k.coords (faces_of (shape_in o) k.conn)) q.known ∙ sym q.passed.are
+      ap (λ t. polygons 3 k.conn k.coords (faces_of (shape_of t) k.conn)) (sym (same q.known e)) ∙ sym q.passed.are
 
-module _ (k : Cell) (a : Accepted (plane_cell k)) where
-  pub copies_plane : (out : List Float) → 2 * corners_of (plane_cell k) ≤ length out
-      → CopiesPolygon k.conn k.coords (corners_numbered k.cell_type (length k.conn)) out
-  copies_plane out h =
+module _ (k : Cell) (a : Accepted (plane_cell k)) (t : PlaneType) (e : Ok t ≡ ok_or (plane_type k.cell_type) CellType) where
+  -- the type is the one that was read
+  passed_as : Passed 2 (plane_nodes t) (λ c. polygon_of (plane_corners t (length c))) k.conn k.coords (polygons_of (plane_cell k))
+  passed_as =
       let q = plane_read k (polygons_of (plane_cell k)) a in
-      let n = plane_corners q.kind (length k.conn) in
+      subst (λ t. Passed 2 (plane_nodes t) (λ c. polygon_of (plane_corners t (length c))) k.conn k.coords (polygons_of (plane_cell k))) (same q.known e) q.passed
+
+  pub plane_few_corners : plane_corners t (length k.conn) ≤ 256
+  plane_few_corners = plane_few t (length k.conn) passed_as.allowed
+
+  pub copies_plane : (ps : List ℕ) (out : List Float) → ps ≡ flatten (polygon_of (plane_corners t (length k.conn)))
+      → 2 * corners_of (plane_cell k) ≤ length out → Copies 2 k.conn k.coords ps out
+  copies_plane ps out q h =
+      let n = plane_corners t (length k.conn) in
       let m : length (flatten (polygon_of n)) ≡ corners_of (plane_cell k)
-      = polygons_size 2 k.conn k.coords (polygon_of n) ∙ ap (λ l. length (flatten l)) (sym q.passed.are) in
-      subst (λ o. CopiesPolygon k.conn k.coords (corners_typed o (length k.conn)) out) (sym q.known)
-      (record {
-        few = plane_few q.kind (length k.conn) q.passed.allowed;
-        copies =
-            record {
-              wide = omega arith;
-              inside = polygon_below (length k.conn) n (corners_within q.kind (length k.conn) q.passed.allowed);
-              all_are_rows = q.passed.all_are_rows;
-              room = omega arith;
-            };
+      = polygons_size 2 k.conn k.coords (polygon_of n) ∙ ap (λ l. length (flatten l)) (sym passed_as.are) in
+      copies_at q (record {
+        wide = omega arith;
+        inside = polygon_below (length k.conn) n (corners_within t (length k.conn) passed_as.allowed);
+        all_are_rows = passed_as.all_are_rows;
+        room = omega arith;
       })
 
-  pub plane-polygons
-      : polygons 2 k.conn k.coords (polygon_of (corners_numbered k.cell_type (length k.conn))) ≡ polygons_of (plane_cell k)
-  plane-polygons =
-      let q = plane_read k (polygons_of (plane_cell k)) a in
-      ap (λ o. polygons 2 k.conn k.coords (polygon_of (corners_typed o (length k.conn)))) q.known ∙ sym q.passed.are
+  pub plane_copied : (ps : List ℕ) (out out' : List Float) → ps ≡ flatten (polygon_of (plane_corners t (length k.conn)))
+      → out' ≡ over (gathered 2 k.conn k.coords ps) out → CopiedPolygon (polygons_of (plane_cell k)) out out'
+  plane_copied ps out out' q h =
+      rw passed_as.are (record { coords = h ∙ corners_copied 2 k.conn k.coords (polygon_of (plane_corners t (length k.conn))) ps out q })

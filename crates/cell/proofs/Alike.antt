@@ -3,19 +3,17 @@ use mathlib.Core.Path.{◌≡◌, refl, sym, ap, ◌∙◌}
 use mathlib.Core.List.{List, [], ◌∷◌, ◌++◌, map, flatten, map-append}
 use Prim.Native.Nat.{ℕ, ◌<◌}
 use native.Mathlib.Omega.{arith}
-use lib.Dec.{T, ltb, ltb→lt}
 use lib.Ieee.{Float}
-use lib.Ieee.Fits.{and_l, and_r}
+use Rattle.std.proofs.lemmas.List.Elements.{All-head, All-tail}
+use Rattle.std.proofs.Common.{Some}
 use lib.ListN.{length, take, drop, length-map}
 use lib.Seq.{take_at, drop_at}
 use Rattle.rows.specs.Outcome.{found}
 use Rattle.rows.proofs.Outcomes.{never_both}
 use Rattle.cell.specs.Types.{space_corners, plane_corners}
 use Rattle.cell.specs.Read.{corner, Polygon, Typed, untyped, typed, read_as, typed_in_space, typed_in_plane, numbered_in_space, numbered_in_plane}
-use Rattle.cell.specs.Code.{below}
+use Rattle.cell.specs.Code.{Below}
 use Rattle.cell.specs.Claims.{faces_as, Alike, FirstDecide, MidSidesFree}
-use Rattle.cell.specs.declared.types.InSpace.TheVariants as s
-use Rattle.cell.specs.declared.types.InPlane.TheVariants as p
 use Rattle.cell.proofs.Inside.{among_corners}
 use Rattle.cell.proofs.Polygon.{polygon_below}
 use Rattle.cell.proofs.Answers.{passed}
@@ -69,15 +67,13 @@ alike_in_space = alike 3 numbered_in_space
 pub alike_in_plane : Alike 2 numbered_in_plane
 alike_in_plane = alike 2 numbered_in_plane
 
-same_below : (g h : ℕ → List Float) (n : ℕ) (ps : List ℕ) → T (below n ps) → ((p : ℕ) → p < n → g p ≡ h p) → map g ps ≡ map h ps
-unfolding below
+same_below : (g h : ℕ → List Float) (n : ℕ) (ps : List ℕ) → Below n ps → ((p : ℕ) → p < n → g p ≡ h p) → map g ps ≡ map h ps
 same_below g h n [] b e = refl
 same_below g h n (p ∷ ps) b e =
-    let k : p < n = ltb→lt p n (and_l (ltb p n) (below n ps) b) in
-    ap (λ r. r ∷ map g ps) (e p k) ∙ ap (λ l. h p ∷ l) (same_below g h n ps (and_r (ltb p n) (below n ps) b) e)
+    ap (λ r. r ∷ map g ps) (e p (All-head (λ p. p < n) p ps b)) ∙ ap (λ l. h p ∷ l) (same_below g h n ps (All-tail (λ p. p < n) p ps b) e)
 
 -- where the faces are the same and stand among the first nodes, those decide
-first_decide : (w : ℕ) (k : Typed) (corners : ℕ → ℕ) → ((c : List ℕ) → T (below (corners (length c)) (flatten (faces_as k c))))
+first_decide : (w : ℕ) (k : Typed) (corners : ℕ → ℕ) → ((c : List ℕ) → Below (corners (length c)) (flatten (faces_as k c)))
     → FirstDecide w k corners
 first_decide w k corners b c c' xs xs' ps ps' r r' f z =
     read_alike w k c c' xs xs' ps ps' r r' (ap (map length) f)
@@ -87,8 +83,8 @@ first_decide w k corners b c c' xs xs' ps ps' r r' f z =
 pub mid_sides_free : MidSidesFree
 mid_sides_free =
     record {
-      in_space = λ t. first_decide 3 (typed_in_space (s.Known t)) (space_corners t) (among_corners t);
+      in_space = λ t. first_decide 3 (typed_in_space (Some t)) (space_corners t) (among_corners t);
       in_plane = λ t.
-          first_decide 2 (typed_in_plane (p.Known t)) (plane_corners t)
+          first_decide 2 (typed_in_plane (Some t)) (plane_corners t)
           (λ c. polygon_below (plane_corners t (length c)) (plane_corners t (length c)) (omega arith));
     }

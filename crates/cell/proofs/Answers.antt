@@ -6,23 +6,20 @@ use mathlib.Core.Bool.{Bool, true, false}
 use Prim.Native.Nat.{ℕ, ◌/◌, ◌%◌}
 use borrow.Author.Tests.{eq-eqb, ne_eqb}
 use lib.Dec.{T, eqb}
+use Rattle.std.proofs.Common.{Option, Some, None}
 use lib.Ieee.{Float}
 use lib.ListN.{length, length-map}
-use Rattle.rows.specs.Outcome.{refused, found, unless}
+use Rattle.rows.specs.Outcome.{Outcome, refused, found, and_then, unless}
 use Rattle.rows.proofs.Lists.{flatten_map}
 use Rattle.rows.proofs.Outcomes.{never_both}
 use Rattle.cell.specs.Types.{allow, space_type, space_nodes, shape_of, plane_type, plane_nodes, plane_corners}
 use Rattle.cell.specs.Faces.{Face, faces_of, polygon_of}
 use Rattle.cell.specs.Read.{corner, are_rows, polygons, Polygon, Typed, untyped, typed, read_as, Cell, space_cell, plane_cell}
 use Rattle.cell.specs.Read.{typed_in_space, typed_in_plane}
-use Rattle.cell.specs.Code.{read_faces}
+use Rattle.cell.specs.Code.{read_faces, rows_tested}
 use Rattle.cell.specs.declared.types.Nodes.{Nodes}
 use Rattle.cell.specs.declared.types.SpaceType.{SpaceType}
 use Rattle.cell.specs.declared.types.PlaneType.{PlaneType}
-use Rattle.cell.specs.declared.types.InSpace as S
-use Rattle.cell.specs.declared.types.InSpace.TheVariants as s
-use Rattle.cell.specs.declared.types.InPlane as P
-use Rattle.cell.specs.declared.types.InPlane.TheVariants as p
 
 -- ---- refusals 1 to 3, in order
 
@@ -32,10 +29,6 @@ module _ (w : ℕ) (c : List ℕ) (xs : List Float) where
   unknown_type k e = ap (λ k. read_as w k c xs) e
 
   module _ (k : Typed) (n : Nodes) (faces : List ℕ → List Face) (e : k ≡ typed n faces) where
-    pub wrong_nodes : allow n (length c) ≡ false → read_as w k c xs ≡ refused 2
-    unfolding read_as
-    wrong_nodes a = ap (λ k. read_as w k c xs) e ∙ simp a
-
     pub wrong_coordinates : allow n (length c) ≡ true → (length xs % w ≡ 0 → ⊥) → read_as w k c xs ≡ refused 3
     unfolding read_as
     wrong_coordinates a b = ap (λ k. read_as w k c xs) e ∙ simp (a, ne_eqb _ _ b)
@@ -43,6 +36,28 @@ module _ (w : ℕ) (c : List ℕ) (xs : List Float) where
     pub counts_right : allow n (length c) ≡ true → length xs % w ≡ 0 → read_as w k c xs ≡ read_faces w c xs (faces c)
     unfolding read_as
     counts_right a b = ap (λ k. read_as w k c xs) e ∙ simp (a, eq-eqb _ _ b)
+
+-- what a test of the counts passes on
+pub counted : (w : ℕ) (n : Nodes) (faces : List ℕ → List Face) (k : Cell)
+    → read_as w (typed n faces) k.conn k.coords
+    ≡ and_then (rows_tested w n k) (λ r. unless 4 (are_rows k.conn r (flatten (faces k.conn))) (found (polygons w k.conn k.coords (faces k.conn))))
+unfolding read_as
+counted w n faces k =
+    by_test (allow n (length k.conn)) (eqb (length k.coords % w) 0)
+    (λ r. unless 4 (are_rows k.conn r (flatten (faces k.conn))) (found (polygons w k.conn k.coords (faces k.conn))))
+  where
+    by_test : (a b : Bool) (next : ℕ → Outcome (List Polygon)) → unless 2 a (unless 3 b (next (length k.coords / w)))
+        ≡ and_then (unless 2 a (unless 3 b (found (length k.coords / w)))) next
+    by_test true true next = refl
+    by_test true false next = refl
+    by_test false b next = refl
+
+pub counts_allowed : (w : ℕ) (n : Nodes) (k : Cell) {r : ℕ} → found r ≡ rows_tested w n k → allow n (length k.conn) ≡ true
+counts_allowed w n k e = by_test (allow n (length k.conn)) (eqb (length k.coords % w) 0) _ _ (sym e)
+  where
+    by_test : (a b : Bool) (m r : ℕ) → unless 2 a (unless 3 b (found m)) ≡ found r → a ≡ true
+    by_test true b m r e = refl
+    by_test false b m r e = absurd (never_both e)
 
 -- ---- what was passed where polygons were found
 
@@ -69,16 +84,16 @@ passed w n faces c xs ps r =
 -- a cell in space whose polygons are ps: its type is known, and its faces are that type's
 pub record SpaceRead (k : Cell) (ps : List Polygon) : Type 0 where
   pub kind : SpaceType
-  pub known : space_type k.cell_type ≡ s.Known kind
+  pub known : space_type k.cell_type ≡ Some kind
   pub passed : Passed 3 (space_nodes kind) (faces_of (shape_of kind)) k.conn k.coords ps
 
 pub space_read : (k : Cell) (ps : List Polygon) → space_cell k ≡ found ps → SpaceRead k ps
 unfolding read_as
 space_read k ps r = by_type (space_type k.cell_type) refl
   where
-    by_type : (o : S.InSpace) → space_type k.cell_type ≡ o → SpaceRead k ps
-    by_type s.Unknown e = absurd (never_both (ap (λ o. read_as 3 (typed_in_space o) k.conn k.coords) (sym e) ∙ r))
-    by_type (s.Known t) e =
+    by_type : (o : Option SpaceType) → space_type k.cell_type ≡ o → SpaceRead k ps
+    by_type None e = absurd (never_both (ap (λ o. read_as 3 (typed_in_space o) k.conn k.coords) (sym e) ∙ r))
+    by_type (Some t) e =
         record {
           kind = t;
           known = e;
@@ -88,16 +103,16 @@ space_read k ps r = by_type (space_type k.cell_type) refl
 -- and one in the plane: it is one polygon of the corners that its type has
 pub record PlaneRead (k : Cell) (ps : List Polygon) : Type 0 where
   pub kind : PlaneType
-  pub known : plane_type k.cell_type ≡ p.Known kind
+  pub known : plane_type k.cell_type ≡ Some kind
   pub passed : Passed 2 (plane_nodes kind) (λ c. polygon_of (plane_corners kind (length c))) k.conn k.coords ps
 
 pub plane_read : (k : Cell) (ps : List Polygon) → plane_cell k ≡ found ps → PlaneRead k ps
 unfolding read_as
 plane_read k ps r = by_type (plane_type k.cell_type) refl
   where
-    by_type : (o : P.InPlane) → plane_type k.cell_type ≡ o → PlaneRead k ps
-    by_type p.Unknown e = absurd (never_both (ap (λ o. read_as 2 (typed_in_plane o) k.conn k.coords) (sym e) ∙ r))
-    by_type (p.Known t) e =
+    by_type : (o : Option PlaneType) → plane_type k.cell_type ≡ o → PlaneRead k ps
+    by_type None e = absurd (never_both (ap (λ o. read_as 2 (typed_in_plane o) k.conn k.coords) (sym e) ∙ r))
+    by_type (Some t) e =
         record {
           kind = t;
           known = e;

@@ -6,6 +6,7 @@ use Prim.Native.Nat.{ℕ, suc, ◌*◌, ◌≤◌}
 use native.Mathlib.Omega.{arith}
 use borrow.Author.Tests.{eqb-true, leb-true, ltb-false}
 use lib.Dec.{eqb, ltb}
+use Rattle.std.proofs.Common.{Option, Some, None}
 use lib.ListN.{length, length-append}
 use Rattle.cell.specs.Types.{allow, space_number, space_type, space_nodes, shape_of, plane_nodes, plane_corners}
 use Rattle.cell.specs.Faces.{Face, separator, onto, stretches, kept, faces_of, polygon_of}
@@ -15,8 +16,6 @@ use Rattle.cell.specs.declared.types.SpaceType.{SpaceType}
 use Rattle.cell.specs.declared.types.SpaceType.TheVariants.{Tet4, Tet10, Hex8, Hex21, Wedge6, Wedge15, Phed}
 use Rattle.cell.specs.declared.types.PlaneType.{PlaneType}
 use Rattle.cell.specs.declared.types.PlaneType.TheVariants.{Tri3, Tri6, Tri7, Quad4, Quad8, Quad9, Pgon}
-use Rattle.cell.specs.declared.types.InSpace as S
-use Rattle.cell.specs.declared.types.InSpace.TheVariants as s
 use Rattle.cell.proofs.Answers.{polygons_size, polygons_count, SpaceRead, space_read, plane_read}
 use Rattle.cell.proofs.Polygon.{length_polygon}
 
@@ -92,19 +91,19 @@ by_number N t n k r e h = either (eqb t n) refl
     either true q = e (eqb-true t n q)
     either false q = h
 
-abbrev InSpaceAs : ℕ → S.InSpace → Type 0
-InSpaceAs t (s.Known k) = t ≡ space_number k
-InSpaceAs t s.Unknown = Unit {0}
+abbrev InSpaceAs : ℕ → Option SpaceType → Type 0
+InSpaceAs t (Some k) = t ≡ space_number k
+InSpaceAs t None = Unit {0}
 
-pub space_number_lem : (t : ℕ) (k : SpaceType) → space_type t ≡ s.Known k → t ≡ space_number k
+pub space_number_lem : (t : ℕ) (k : SpaceType) → space_type t ≡ Some k → t ≡ space_number k
 unfolding space_type
 space_number_lem t k e =
     subst (InSpaceAs t) e
-    (next 12 (s.Known Tet4) _ (λ e. e) (next 13 (s.Known Tet10) _ (λ e. e) (next 14 (s.Known Hex8) _ (λ e. e)
-    (next 15 (s.Known Hex21) _ (λ e. e) (next 16 (s.Known Wedge6) _ (λ e. e) (next 17 (s.Known Wedge15) _ (λ e. e)
-    (next 18 (s.Known Phed) _ (λ e. e) tt)))))))
+    (next 12 (Some Tet4) _ (λ e. e) (next 13 (Some Tet10) _ (λ e. e) (next 14 (Some Hex8) _ (λ e. e)
+    (next 15 (Some Hex21) _ (λ e. e) (next 16 (Some Wedge6) _ (λ e. e) (next 17 (Some Wedge15) _ (λ e. e)
+    (next 18 (Some Phed) _ (λ e. e) tt)))))))
   where
-    next : (n : ℕ) (k r : S.InSpace) → (t ≡ n → InSpaceAs t k) → InSpaceAs t r → InSpaceAs t (cond (eqb t n) k r)
+    next : (n : ℕ) (k r : Option SpaceType) → (t ≡ n → InSpaceAs t k) → InSpaceAs t r → InSpaceAs t (cond (eqb t n) k r)
     next = by_number (InSpaceAs t) t
 
 -- ---- every type in the plane
@@ -140,7 +139,7 @@ space_bounds k ps r =
     subst (λ n. SpaceBounds (shape_of r.kind) n (length ps)) m
     (subst (λ n. SpaceBounds (shape_of r.kind) (length (flatten fs)) n) f (faces_bounds k.conn r.kind r.passed.allowed))
 
-same_space : (t u : SpaceType) (o : S.InSpace) → o ≡ s.Known t → o ≡ s.Known u → t ≡ u
+same_space : (t u : SpaceType) (o : Option SpaceType) → o ≡ Some t → o ≡ Some u → t ≡ u
 same_space t u o e f = cc
 
 pub space_bounded : SpaceBounded

@@ -2,7 +2,7 @@
 use mathlib.Core.Path.{◌≡◌, refl, sym, ap, ◌∙◌}
 use mathlib.Core.List.{List, [], ◌∷◌, ◌++◌, map, flatten, map-append}
 use mathlib.Core.Bool.{true, false, ◌&&◌}
-use Prim.Native.Nat.{ℕ, zero, suc, ◌+◌, ◌-◌, ◌*◌, ◌/◌, ◌≤◌, ◌<◌}
+use Prim.Native.Nat.{ℕ, zero, suc, ◌+◌, ◌*◌, ◌/◌, ◌≤◌, ◌<◌}
 use native.Mathlib.Omega.{arith}
 use native.Mathlib.Nat.{mul-suc, mul-zero, mul-div-le, mul-le-mul_left}
 use native.Mathlib.Numerals.{add-one}
@@ -12,6 +12,7 @@ use lib.Ieee.{Float}
 use lib.Ieee.Fits.{and_l, and_r}
 use lib.ListN.{length, get_or, take, drop, length-append, length-drop, drop_of_length-le}
 use lib.Seq.{drop-cons, take-suc, take_all, length-take-le, paste}
+use Rattle.std.proofs.lemmas.List.{get_or-take, get_or-drop}
 use Rattle.rows.specs.Rows.{over, row}
 use Rattle.cell.specs.Read.{corner, are_rows}
 use Rattle.cell.specs.Code.{gathered}
@@ -51,16 +52,18 @@ row_at c r (p ∷ ps) (suc j) a h = row_at c r ps j (and_r (ltb (get_or c p 0) r
 pub one_more : (w n m : ℕ) → n < m → w * n + w ≤ w * m
 one_more w n m h = let k : w * suc n ≤ w * m = mul-le-mul_left w h in omega (arith, mul-suc w n)
 
+pub row_size : (w : ℕ) (xs : List Float) (n : ℕ) → w * n + w ≤ length xs → length (row w xs n) ≡ w
+row_size w xs n h = length-take-le w (drop (w * n) xs) (omega (arith, length-drop (w * n) xs))
+
 module _ (w : ℕ) (xs : List Float) (n : ℕ) (h : n < length xs / w) where
   pub row_fits : w * n + w ≤ length xs
   row_fits = omega (arith, one_more w n (length xs / w) h, mul-div-le (length xs) w)
 
   pub row_length : length (row w xs n) ≡ w
-  row_length = length-take-le w (drop (w * n) xs) (omega (arith, row_fits, length-drop (w * n) xs))
+  row_length = row_size w xs n row_fits
 
-  -- as the code lends it
-  pub row_is : take (w * n + w - w * n) (drop (w * n) xs) ≡ row w xs n
-  row_is = let e : w * n + w - w * n ≡ w = omega arith in ap (λ k. take k (drop (w * n) xs)) e
+pub row_entry : (w : ℕ) (xs : List Float) (n k : ℕ) (d : Float) → k < w → get_or (row w xs n) k d ≡ get_or xs (w * n + k) d
+row_entry w xs n k d h = rw (get_or-take, get_or-drop)
 
 -- ---- the corners' rows, one after the other
 
@@ -81,20 +84,22 @@ module _ (w : ℕ) (c : List ℕ) (xs : List Float) (ps : List ℕ) (out₀ : Li
   unfolding flatten
   filling_start = record { within = omega arith; filled = refl; size = sym (mul-zero w); same = refl }
 
-  pub filling_step : (out : List Float) (j : ℕ) → Filling w c xs ps out₀ out j → (n : ℕ) (s out' : List Float) → j < length ps
-      → n ≡ get_or c (get_or ps j 0) 0 → n < length xs / w → s ≡ row w xs n → out' ≡ paste out (w * j) s (length s) → length out' ≡ length out
+  pub filling_step : (out : List Float) (j : ℕ) → Filling w c xs ps out₀ out j → (n : ℕ) (out' : List Float) → j < length ps
+      → n ≡ get_or c (get_or ps j 0) 0 → n < length xs / w → out' ≡ paste out (w * j) (row w xs n) w → length out' ≡ length out
       → Filling w c xs ps out₀ out' (j + 1)
-  filling_step out j f n s out' h e k r p q =
+  filling_step out j f n out' h e k p q =
       let g = gathered w c xs (take j ps) in
-      let y : s ≡ corner w c xs (get_or ps j 0) = r ∙ ap (row w xs) e in
+      let s = row w xs n in
+      let y : s ≡ corner w c xs (get_or ps j 0) = ap (row w xs) e in
       let z : gathered w c xs (take (j + 1) ps) ≡ g ++ s
       = ap (λ i. gathered w c xs (take i ps)) (add-one j) ∙ ap (gathered w c xs) (take-suc ps j 0 h)
       ∙ gathered_snoc w c xs (take j ps) (get_or ps j 0) ∙ ap (λ l. g ++ l) (sym y) in
-      let l : length s ≡ w = ap length r ∙ row_length w xs n k in
+      let l : length s ≡ w = row_length w xs n k in
       let m : w * (j + 1) ≡ w * j + w = ap (λ i. w * i) (add-one j) ∙ mul-suc w j in
       record {
         within = omega arith;
-        filled = p ∙ over_more g s out₀ out (w * j) f.size f.filled ∙ ap (λ v. over v out₀) (sym z);
+        filled =
+            p ∙ ap (paste out (w * j) s) (sym l) ∙ over_more g s out₀ out (w * j) f.size f.filled ∙ ap (λ v. over v out₀) (sym z);
         size = ap length z ∙ length-append g s ∙ omega (arith, f.size);
         same = q ∙ f.same;
       }

@@ -201,7 +201,7 @@ module _ (conn corners ends : List ℕ) (n s f i : ℕ) where
       ∙ ap (λ l. g.done ++ kept (l ∷ [])) (append-nil g.cur)
 
   pub end_short : (g : Going conn corners ends n s f i) → length conn ≤ i → n - s < 3
-      → Listed (kept (stretches 0 conn)) s f corners ends
+      → Listed (kept (stretches 0 conn)) (record { corners = s; faces = f }) corners ends
   end_short g h k =
       let p = g.split in
       let c : length g.cur < 3 = omega (arith, p.count_is) in
@@ -215,7 +215,7 @@ module _ (conn corners ends : List ℕ) (n s f i : ℕ) where
       }
 
   pub end_whole : (g : Going conn corners ends n s f i) → length conn ≤ i → 3 ≤ n - s
-      → Listed (kept (stretches 0 conn)) n (f + 1) corners (set ends f n)
+      → Listed (kept (stretches 0 conn)) (record { corners = n; faces = f + 1 }) corners (set ends f n)
   end_whole g h k =
       let p = g.split in
       let c : 3 ≤ length g.cur = omega (arith, p.count_is) in

@@ -1,7 +1,7 @@
 -- What is shown of the reading: its bounds, and that mid-side nodes never matter. Statements only.
 -- They are proved by `space_bounded` and `plane_bounded`, in proofs/Bounds.antt,
 -- and by `alike` and `mid_sides_free`, in proofs/Alike.antt.
-use Rattle.std.specs.Prelude.{ℕ, ◌*◌, ◌≤◌, ◌<◌, ◌≡◌, Float, length}
+use Rattle.std.specs.Prelude.{ℕ, ◌*◌, ◌≤◌, ◌<◌, ◌≡◌, Float, length, Some}
 use mathlib.Core.List.{List, [], map, flatten}
 use Rattle.cell.specs.Types.{space_type, space_corners, shape_of, plane_type, plane_corners}
 use Rattle.cell.specs.Faces.{Face}
@@ -12,8 +12,6 @@ use Rattle.cell.specs.declared.types.SpaceType.{SpaceType}
 use Rattle.cell.specs.declared.types.PlaneType.{PlaneType}
 use Rattle.cell.specs.declared.types.Shape.{Shape}
 use Rattle.cell.specs.declared.types.Shape.TheVariants.{Tet, Wedge, Hex, Phed}
-use Rattle.cell.specs.declared.types.InSpace.TheVariants as s
-use Rattle.cell.specs.declared.types.InPlane.TheVariants as p
 
 -- ---- bounds
 
@@ -31,13 +29,13 @@ pub record SpaceBounds (s : Shape) (m f : ℕ) : Type 0 where
 
 abbrev pub SpaceBounded : Type 0
 SpaceBounded =
-    (k : Cell) (t : SpaceType) (ps : List Polygon) → space_type k.cell_type ≡ s.Known t → space_cell k ≡ found ps
+    (k : Cell) (t : SpaceType) (ps : List Polygon) → space_type k.cell_type ≡ Some t → space_cell k ≡ found ps
     → SpaceBounds (shape_of t) (length (flatten ps)) (length ps)
 
 -- an accepted cell in the plane has the corners of its type in one polygon, at most 256
 pub record PlaneBounds (k : Cell) (ps : List Polygon) : Type 0 where
   pub kind : PlaneType
-  pub known : plane_type k.cell_type ≡ p.Known kind
+  pub known : plane_type k.cell_type ≡ Some kind
   pub corners : length (flatten ps) ≡ plane_corners kind (length k.conn)
   pub most : length (flatten ps) ≤ 256
   pub faces : length ps ≡ 1
@@ -81,5 +79,5 @@ FirstDecide w k corners =
 
 -- so it is with every type in space and in the plane: the mid-side nodes come after the corners, and never matter
 pub record MidSidesFree : Type 0 where
-  pub in_space : (t : SpaceType) → FirstDecide 3 (typed_in_space (s.Known t)) (space_corners t)
-  pub in_plane : (t : PlaneType) → FirstDecide 2 (typed_in_plane (p.Known t)) (plane_corners t)
+  pub in_space : (t : SpaceType) → FirstDecide 3 (typed_in_space (Some t)) (space_corners t)
+  pub in_plane : (t : PlaneType) → FirstDecide 2 (typed_in_plane (Some t)) (plane_corners t)

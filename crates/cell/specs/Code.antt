@@ -1,25 +1,33 @@
 -- What the clauses of the parts of the reading cite. Definitions only.
-use Rattle.std.specs.Prelude.{ℕ, ◌*◌, ◌/◌, ◌≤◌, ◌<◌, ◌≡◌, Bool, true, ◌&&◌, T, ltb, Float, length, take}
-use mathlib.Core.List.{List, [], ◌∷◌, map, flatten}
+use Rattle.std.specs.Prelude.{ℕ, ◌*◌, ◌/◌, ◌%◌, ◌≤◌, ◌<◌, ◌≡◌, T, eqb, Float, length, take}
+use Rattle.std.specs.List.{All}
+use mathlib.Core.List.{List, map, flatten}
 use Rattle.rows.specs.Rows.{ends_from}
 use Rattle.rows.specs.Outcome.{Outcome, found, unless}
-use Rattle.cell.specs.Faces.{Face, polygon_of}
-use Rattle.cell.specs.Read.{corner, are_rows, polygons, Polygon, Copied}
+use Rattle.cell.specs.Faces.{Face}
+use Rattle.cell.specs.Types.{allow}
+use Rattle.cell.specs.Read.{corner, are_rows, polygons, Polygon, Cell, Copied}
+use Rattle.cell.specs.declared.types.Nodes.{Nodes}
+use Rattle.cell.specs.declared.FaceList.{FaceList}
 use Rattle.cell.specs.declared.Kept.{Kept}
 
 -- ---- positions of the connectivity
 
--- whether every position is below n
-unfoldable pub below : ℕ → List ℕ → Bool
-below n [] = true
-below n (p ∷ ps) = ltb p n && below n ps
+-- every position is below n
+abbrev pub Below : ℕ → List ℕ → Type 0
+Below n ps = All (λ p. p < n) ps
 
--- a listing of faces: m positions in `corners`, the faces one after the other, and the f faces' ends
-pub record Listed (fs : List Face) (m f : ℕ) (corners ends : List ℕ) : Type 0 where
-  pub positions : take m corners ≡ flatten fs
-  pub places : take f ends ≡ ends_from 0 fs
-  pub room : m ≤ length corners
-  pub space : f ≤ length ends
+-- the faces fs in a row
+pub record Lists (fs : List Face) (l : FaceList) : Type 0 where
+  pub corners : l.corners.now ≡ flatten fs
+  pub ends : l.ends.now ≡ ends_from 0 fs
+
+-- a listing of the faces fs at the start of two buffers
+pub record Listed (fs : List Face) (k : Kept) (corners ends : List ℕ) : Type 0 where
+  pub positions : take k.corners corners ≡ flatten fs
+  pub places : take k.faces ends ≡ ends_from 0 fs
+  pub room : k.corners ≤ length corners
+  pub space : k.faces ≤ length ends
 
 -- the coordinates of the nodes at the positions ps, in a row
 abbrev pub gathered : ℕ → List ℕ → List Float → List ℕ → List Float
@@ -34,7 +42,11 @@ read_faces w c xs fs = unless 4 (are_rows c (length xs / w) (flatten fs)) (found
 -- what a test of faces needs: few nodes, and positions of the connectivity
 pub record Testable (c : List ℕ) (fs : List Face) : Type 0 where
   pub few : length c ≤ 256
-  pub inside : T (below (length c) (flatten fs))
+  pub inside : Below (length c) (flatten fs)
+
+-- what is told of a cell whose type has n nodes: refusals 2 and 3, or how many rows of w coordinates it has
+abbrev pub rows_tested : ℕ → Nodes → Cell → Outcome ℕ
+rows_tested w n k = unless 2 (allow n (length k.conn)) (unless 3 (eqb (length k.coords % w) 0) (found (length k.coords / w)))
 
 -- what is told of corners at the positions ps: refusal 4, or how many they are
 abbrev pub corners_tested : List ℕ → ℕ → List ℕ → Outcome ℕ
@@ -45,7 +57,7 @@ corners_tested c rows ps = unless 4 (are_rows c rows ps) (found (length ps))
 -- what copying corners needs: positions of the connectivity, each of which is a row of w, and room
 pub record Copies (w : ℕ) (c : List ℕ) (xs : List Float) (ps : List ℕ) (out : List Float) : Type 0 where
   pub wide : 0 < w
-  pub inside : T (below (length c) ps)
+  pub inside : Below (length c) ps
   pub all_are_rows : T (are_rows c (length xs / w) ps)
   pub room : w * length ps ≤ length out
 
@@ -55,16 +67,11 @@ pub record CopiesFaces (c : List ℕ) (xs : List Float) (fs : List Face) (out : 
   pub copies : Copies 3 c xs (flatten fs) out
   pub space : length fs ≤ length ends
 
--- and of a polygon of n corners
-pub record CopiesPolygon (c : List ℕ) (xs : List Float) (n : ℕ) (out : List Float) : Type 0 where
-  pub few : n ≤ 256
-  pub copies : Copies 2 c xs (flatten (polygon_of n)) out
-
--- what copying the faces whose corners stand at the positions ps and which end at es needs
-pub record PutsFaces (ps es c : List ℕ) (xs out : List Float) (ends : List ℕ) : Type 0 where
-  pub copies : Copies 3 c xs ps out
-  pub space : length es ≤ length ends
+-- what copying the faces l needs
+pub record PutsFaces (l : FaceList) (c : List ℕ) (xs out : List Float) (ends : List ℕ) : Type 0 where
+  pub copies : Copies 3 c xs l.corners.now out
+  pub space : length l.ends.now ≤ length ends
 
 -- they are written
-pub record PutFaces (ps es c : List ℕ) (xs : List Float) (k : Kept) (out out' : List Float) (ends ends' : List ℕ) : Type 0 where
-  pub puts : (fs : List Face) → ps ≡ flatten fs → es ≡ ends_from 0 fs → Copied (polygons 3 c xs fs) k out out' ends ends'
+pub record PutFaces (l : FaceList) (c : List ℕ) (xs : List Float) (k : Kept) (out out' : List Float) (ends ends' : List ℕ) : Type 0 where
+  pub puts : (fs : List Face) → Lists fs l → Copied (polygons 3 c xs fs) k out out' ends ends'

@@ -1,19 +1,18 @@
 -- The reading of a cell: its faces as polygons of corner coordinates, or the number of a refusal. Over the width w of a row.
 -- Definitions only.
-use Rattle.std.specs.Prelude.{ℕ, ◌/◌, ◌%◌, ◌≡◌, Bool, true, ◌&&◌, eqb, ltb, Float, length, get_or}
+use Rattle.std.specs.Prelude.{ℕ, ◌/◌, ◌%◌, ◌≡◌, Bool, true, ◌&&◌, eqb, ltb, Float, length, get_or, Option, Some, None, Result}
 use mathlib.Core.List.{List, [], ◌∷◌, map, flatten}
 use Rattle.rows.specs.Rows.{row, over, ends_from}
 use Rattle.rows.specs.Outcome.{Outcome, refused, found, and_then, unless}
+use Rattle.rows.specs.Refusals.{outcome_of}
+use Rattle.rows.specs.declared.Refusal.{Refusal}
 use Rattle.cell.specs.Types.{allow, space_type, space_nodes, shape_of, plane_type, plane_nodes, plane_corners}
 use Rattle.cell.specs.Faces.{Face, faces_of, polygon_of}
 use Rattle.cell.specs.declared.types.Nodes.{Nodes}
-use Rattle.cell.specs.declared.types.InSpace as S
-use Rattle.cell.specs.declared.types.InSpace.TheVariants as s
-use Rattle.cell.specs.declared.types.InPlane as P
-use Rattle.cell.specs.declared.types.InPlane.TheVariants as p
+use Rattle.cell.specs.declared.types.SpaceType.{SpaceType}
+use Rattle.cell.specs.declared.types.PlaneType.{PlaneType}
+use Rattle.cell.specs.declared.Cell as C
 use Rattle.cell.specs.declared.Kept.{Kept}
-use Rattle.cell.specs.declared.Reading as R
-use Rattle.cell.specs.declared.Reading.TheVariants as r
 
 -- ---- corners
 
@@ -50,13 +49,13 @@ read_as w (typed n faces) c xs =
     (unless 4 (are_rows c (length xs / w) (flatten (faces c))) (found (polygons w c xs (faces c)))))
 
 -- what a type in space tells, and one in the plane
-abbrev pub typed_in_space : S.InSpace → Typed
-typed_in_space s.Unknown = untyped
-typed_in_space (s.Known k) = typed (space_nodes k) (faces_of (shape_of k))
+abbrev pub typed_in_space : Option SpaceType → Typed
+typed_in_space None = untyped
+typed_in_space (Some k) = typed (space_nodes k) (faces_of (shape_of k))
 
-abbrev pub typed_in_plane : P.InPlane → Typed
-typed_in_plane p.Unknown = untyped
-typed_in_plane (p.Known k) = typed (plane_nodes k) (λ c. polygon_of (plane_corners k (length c)))
+abbrev pub typed_in_plane : Option PlaneType → Typed
+typed_in_plane None = untyped
+typed_in_plane (Some k) = typed (plane_nodes k) (λ c. polygon_of (plane_corners k (length c)))
 
 -- a cell as it is handed over: a type number, node numbers, and coordinates
 pub record Cell : Type 0 where
@@ -66,6 +65,10 @@ pub record Cell : Type 0 where
 
 abbrev pub cell : ℕ → List ℕ → List Float → Cell
 cell t c xs = record { cell_type = t; conn = c; coords = xs }
+
+-- as the code lends it
+abbrev pub cell_of : C.Cell → Cell
+cell_of k = cell k.cell_type k.conn.now k.coords.now
 
 -- the reading of a cell of w coordinates a row, where `tells` is what a type number tells
 abbrev pub read_cell : ℕ → (ℕ → Typed) → Cell → Outcome (List Polygon)
@@ -108,14 +111,9 @@ face_count o = length (polygons_of o)
 abbrev pub kept_of : List Polygon → Kept
 kept_of ps = record { corners = length (flatten ps); faces = length ps }
 
--- the number of docs/RULES.md and the value for each case of the code's answer
-abbrev pub reading_told : R.Reading → Outcome ℕ
-reading_told (r.Refused k) = refused k
-reading_told (r.Cell m) = found m
-
 -- the answer to a test tells what the reading o refuses, or how many corners are kept of it
-pub record Tested (o : Outcome (List Polygon)) (answer : R.Reading) : Type 0 where
-  pub tells : reading_told answer ≡ and_then o (λ ps. found (length (flatten ps)))
+pub record Tested (o : Outcome (List Polygon)) (answer : Result ℕ Refusal) : Type 0 where
+  pub tells : outcome_of answer ≡ and_then o (λ ps. found (length (flatten ps)))
 
 -- the polygons ps are written: their corners' coordinates over one slice, and where each ends among the corners over another; k tells how
 -- many there are

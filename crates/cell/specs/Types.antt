@@ -1,15 +1,11 @@
 -- The types of a cell, with the number, the node count and the corner count that docs/RULES.md gives each. Definitions only.
-use Rattle.std.specs.Prelude.{ℕ, Bool, cond, eqb, leb}
+use Rattle.std.specs.Prelude.{ℕ, Bool, cond, eqb, leb, Option, Some, None}
 use Rattle.cell.specs.declared.types.Nodes.{Nodes}
 use Rattle.cell.specs.declared.types.Nodes.TheVariants.{Exactly, AtMost}
 use Rattle.cell.specs.declared.types.SpaceType.{SpaceType}
 use Rattle.cell.specs.declared.types.SpaceType.TheVariants.{Tet4, Tet10, Hex8, Hex21, Wedge6, Wedge15, Phed}
 use Rattle.cell.specs.declared.types.PlaneType.{PlaneType}
 use Rattle.cell.specs.declared.types.PlaneType.TheVariants.{Tri3, Tri6, Tri7, Quad4, Quad8, Quad9, Pgon}
-use Rattle.cell.specs.declared.types.InSpace as S
-use Rattle.cell.specs.declared.types.InSpace.TheVariants as s
-use Rattle.cell.specs.declared.types.InPlane as P
-use Rattle.cell.specs.declared.types.InPlane.TheVariants as p
 use Rattle.cell.specs.declared.types.Shape.{Shape}
 use Rattle.cell.specs.declared.types.Shape.TheVariants as h
 
@@ -31,15 +27,15 @@ space_number Wedge15 = 17
 space_number Phed = 18
 
 -- the type with a number, if it is one of these
-unfoldable pub space_type : ℕ → S.InSpace
+unfoldable pub space_type : ℕ → Option SpaceType
 space_type t =
-    cond (eqb t 12) (s.Known Tet4)
-    (cond (eqb t 13) (s.Known Tet10)
-    (cond (eqb t 14) (s.Known Hex8)
-    (cond (eqb t 15) (s.Known Hex21)
-    (cond (eqb t 16) (s.Known Wedge6)
-    (cond (eqb t 17) (s.Known Wedge15)
-    (cond (eqb t 18) (s.Known Phed) s.Unknown))))))
+    cond (eqb t 12) (Some Tet4)
+    (cond (eqb t 13) (Some Tet10)
+    (cond (eqb t 14) (Some Hex8)
+    (cond (eqb t 15) (Some Hex21)
+    (cond (eqb t 16) (Some Wedge6)
+    (cond (eqb t 17) (Some Wedge15)
+    (cond (eqb t 18) (Some Phed) None))))))
 
 -- how many nodes a type has; separators count among those of a PHED
 abbrev pub space_nodes : SpaceType → Nodes
@@ -71,26 +67,18 @@ shape_of Wedge6 = h.Wedge
 shape_of Wedge15 = h.Wedge
 shape_of Phed = h.Phed
 
--- the shape of the type with a number; of a number that has none a polyhedron
-abbrev pub shape_in : S.InSpace → Shape
-shape_in (s.Known k) = shape_of k
-shape_in s.Unknown = h.Phed
-
-abbrev pub shape_numbered : ℕ → Shape
-shape_numbered t = shape_in (space_type t)
-
 -- ---- in the plane
 
 -- the type with a number, if it is one of these
-unfoldable pub plane_type : ℕ → P.InPlane
+unfoldable pub plane_type : ℕ → Option PlaneType
 plane_type t =
-    cond (eqb t 5) (p.Known Tri3)
-    (cond (eqb t 6) (p.Known Tri6)
-    (cond (eqb t 7) (p.Known Tri7)
-    (cond (eqb t 8) (p.Known Quad4)
-    (cond (eqb t 9) (p.Known Quad8)
-    (cond (eqb t 10) (p.Known Quad9)
-    (cond (eqb t 11) (p.Known Pgon) p.Unknown))))))
+    cond (eqb t 5) (Some Tri3)
+    (cond (eqb t 6) (Some Tri6)
+    (cond (eqb t 7) (Some Tri7)
+    (cond (eqb t 8) (Some Quad4)
+    (cond (eqb t 9) (Some Quad8)
+    (cond (eqb t 10) (Some Quad9)
+    (cond (eqb t 11) (Some Pgon) None))))))
 
 -- how many nodes a type has
 abbrev pub plane_nodes : PlaneType → Nodes
@@ -111,11 +99,3 @@ plane_corners Quad4 n = 4
 plane_corners Quad8 n = 4
 plane_corners Quad9 n = 4
 plane_corners Pgon n = n
-
--- the corner count of the type with a number; of a number that has none all n nodes
-abbrev pub corners_typed : P.InPlane → ℕ → ℕ
-corners_typed (p.Known k) n = plane_corners k n
-corners_typed p.Unknown n = n
-
-abbrev pub corners_numbered : ℕ → ℕ → ℕ
-corners_numbered t n = corners_typed (plane_type t) n

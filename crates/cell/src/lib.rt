@@ -3,23 +3,26 @@
 
 pub mod types;
 
-ghost use Rattle.std.specs.Prelude.{◌≡◌, ◌+◌, ◌*◌, ◌/◌, ◌<◌, ◌≤◌, T, length, get_or, take};
+ghost use Rattle.std.specs.Prelude.{◌≡◌, ◌+◌, ◌*◌, ◌/◌, ◌<◌, ◌≤◌, length, get_or, take};
 ghost use mathlib.Core.List.{flatten};
 ghost use Rattle.std.proofs.Math.Seq.{paste};
-ghost use Rattle.rows.specs.Rows.{over};
-ghost use Rattle.cell.specs.Faces.{stretches, kept, faces_of, polygon_of};
-ghost use Rattle.cell.specs.Read.{are_rows, polygons, cell, space_cell, plane_cell, polygons_of, corners_of, face_count};
-ghost use Rattle.cell.specs.Read.{reading_told, Accepted, Copied, CopiedPolygon, Tested};
-ghost use Rattle.cell.specs.Code.{below, gathered, corners_tested, Listed, Testable};
-ghost use Rattle.cell.specs.Code.{Copies, CopiesFaces, CopiesPolygon, PutsFaces, PutFaces};
+ghost use Rattle.rows.specs.Refusals.{outcome_of};
+ghost use Rattle.rows.specs.Rows.{over, row};
+ghost use Rattle.cell.specs.Faces.{stretches, kept, faces_of};
+ghost use Rattle.cell.specs.Read.{polygons, space_cell, plane_cell, polygons_of, corners_of, face_count};
+ghost use Rattle.cell.specs.Read.{cell_of, Accepted, Copied, CopiedPolygon, Tested};
+ghost use Rattle.cell.specs.Code.{Below, gathered, rows_tested, corners_tested, Listed, Testable};
+ghost use Rattle.cell.specs.Code.{Copies, CopiesFaces, PutsFaces, PutFaces};
 
-use types::{InPlane, InSpace, PlaneType, Shape, SpaceType};
+use rows::Refusal;
+use types::{Nodes, PlaneType, Shape, SpaceType};
 
-// What is read of a cell: the number of a refusal, or how many face corners are kept.
+// A cell as it is handed over: a type number, node numbers, and coordinates.
 #[derive(Clone, Copy)]
-pub enum Reading {
-    Refused(u8),
-    Cell(usize),
+pub struct Cell<'a> {
+    pub cell_type: u8,
+    pub conn: &'a [u64],
+    pub coords: &'a [f64],
 }
 
 // How many face corners and faces are kept.
@@ -29,119 +32,94 @@ pub struct Kept {
     pub faces: usize,
 }
 
-// Refusals 1 to 4 of a cell in space, or how many face corners it has. Writes nothing.
-pub fn test_space_cell(cell_type: u8, conn: &[u64], coords: &[f64]) -> Reading
-    ensures { Tested (space_cell (cell cell_type conn.now coords.now)) result }
-{
-    let InSpace::Known(k) = SpaceType::of_number(cell_type) else {
-        return Reading::Refused(1);
-    };
-    if !k.nodes().allow(conn.len()) {
-        return Reading::Refused(2);
+impl Cell<'_> {
+    // Refusals 1 to 4 of a cell in space, or how many face corners it has. Writes nothing.
+    pub fn test_in_space(&self) -> Result<usize, Refusal>
+        ensures { Tested (space_cell (cell_of self.now)) result }
+    {
+        let k = SpaceType::try_from(self.cell_type)?;
+        let rows = self.rows::<3>(k.nodes())?;
+        test_faces(k.shape(), self.conn, rows)
     }
-    if coords.len() % 3 != 0 {
-        return Reading::Refused(3);
-    }
-    test_faces(k.shape(), conn, coords.len() / 3)
-}
 
-// The corners' coordinates of an accepted cell in space, written over the start of `out` face by face, and where each
-// face ends among the corners, written over the start of `face_ends`.
-pub fn copy_space_cell(
-    cell_type: u8,
-    conn: &[u64],
-    coords: &[f64],
-    out: &mut [f64],
-    face_ends: &mut [usize],
-) -> Kept
-    requires { Accepted (space_cell (cell cell_type conn.now coords.now))
-        × (3 * corners_of (space_cell (cell cell_type conn.now coords.now)) ≤ length out.old)
-        × (face_count (space_cell (cell cell_type conn.now coords.now)) ≤ length face_ends.old) }
-    ensures { Copied (polygons_of (space_cell (cell cell_type conn.now coords.now))) result
-        out.old out.new face_ends.old face_ends.new }
-{
-    copy_faces(SpaceType::shape_of(cell_type), conn, coords, out, face_ends)
-}
-
-// Refusals 1 to 4 of a cell in the plane, or how many corners it has. Writes nothing.
-pub fn test_plane_cell(cell_type: u8, conn: &[u64], coords: &[f64]) -> Reading
-    ensures { Tested (plane_cell (cell cell_type conn.now coords.now)) result }
-{
-    let InPlane::Known(k) = PlaneType::of_number(cell_type) else {
-        return Reading::Refused(1);
-    };
-    if !k.nodes().allow(conn.len()) {
-        return Reading::Refused(2);
+    // The corners' coordinates of an accepted cell in space, written over the start of `out` face by face, and where
+    // each face ends among the corners, written over the start of `face_ends`.
+    pub fn copy_in_space(&self, out: &mut [f64], face_ends: &mut [usize]) -> Kept
+        requires { Accepted (space_cell (cell_of self.now))
+            × (3 * corners_of (space_cell (cell_of self.now)) ≤ length out.old)
+            × (face_count (space_cell (cell_of self.now)) ≤ length face_ends.old) }
+        ensures { Copied (polygons_of (space_cell (cell_of self.now))) result
+            out.old out.new face_ends.old face_ends.new }
+    {
+        let k = SpaceType::try_from(self.cell_type).unwrap();
+        copy_faces(k.shape(), self.conn, self.coords, out, face_ends)
     }
-    if coords.len() % 2 != 0 {
-        return Reading::Refused(3);
-    }
-    test_polygon(k.corners(conn.len()), conn, coords.len() / 2)
-}
 
-// The corners' coordinates of an accepted cell in the plane, written over the start of `out`.
-pub fn copy_plane_cell(cell_type: u8, conn: &[u64], coords: &[f64], out: &mut [f64])
-    requires { Accepted (plane_cell (cell cell_type conn.now coords.now))
-        × (2 * corners_of (plane_cell (cell cell_type conn.now coords.now)) ≤ length out.old) }
-    ensures { CopiedPolygon (polygons_of (plane_cell (cell cell_type conn.now coords.now)))
-        out.old out.new }
-{
-    copy_polygon(
-        PlaneType::corners_of(cell_type, conn.len()),
-        conn,
-        coords,
-        out,
-    )
+    // Refusals 1 to 4 of a cell in the plane, or how many corners it has. Writes nothing.
+    pub fn test_in_plane(&self) -> Result<usize, Refusal>
+        ensures { Tested (plane_cell (cell_of self.now)) result }
+    {
+        let k = PlaneType::try_from(self.cell_type)?;
+        let rows = self.rows::<2>(k.nodes())?;
+        let n = k.corners(self.conn.len());
+        test_corners(self.conn, &POSITIONS[..n], rows)
+    }
+
+    // The corners' coordinates of an accepted cell in the plane, written over the start of `out`.
+    pub fn copy_in_plane(&self, out: &mut [f64])
+        requires { Accepted (plane_cell (cell_of self.now))
+            × (2 * corners_of (plane_cell (cell_of self.now)) ≤ length out.old) }
+        ensures { CopiedPolygon (polygons_of (plane_cell (cell_of self.now))) out.old out.new }
+    {
+        let k = PlaneType::try_from(self.cell_type).unwrap();
+        let n = k.corners(self.conn.len());
+        copy_rows::<2>(self.conn, self.coords, &POSITIONS[..n], out)
+    }
+
+    // Refusals 2 and 3 of a type with so many nodes, or how many rows of W coordinates there are.
+    fn rows<const W: usize>(&self, nodes: Nodes) -> Result<usize, Refusal>
+        requires { 0 < W }
+        ensures { outcome_of result ≡ rows_tested W nodes (cell_of self.now) }
+    {
+        if !nodes.allow(self.conn.len()) {
+            return Err(Refusal::NodeCount);
+        }
+        if self.coords.len() % W != 0 {
+            return Err(Refusal::PartialRow);
+        }
+        Ok(self.coords.len() / W)
+    }
 }
 
 // Refusal 4, or how many corners the faces of this shape have.
-fn test_faces(s: Shape, conn: &[u64], rows: usize) -> Reading
+fn test_faces(s: Shape, conn: &[u64], rows: usize) -> Result<usize, Refusal>
     requires { Testable conn.now (faces_of s conn.now) }
-    ensures { reading_told result ≡ corners_tested conn.now rows (flatten (faces_of s conn.now)) }
+    ensures { outcome_of result ≡ corners_tested conn.now rows (flatten (faces_of s conn.now)) }
 {
     match s {
-        Shape::Tet => test_corners(conn, &TET, rows),
-        Shape::Wedge => test_corners(conn, &WEDGE, rows),
-        Shape::Hex => test_corners(conn, &HEX, rows),
-        Shape::Phed => test_phed(conn, rows),
+        Shape::Tet => test_corners(conn, TET.corners, rows),
+        Shape::Wedge => test_corners(conn, WEDGE.corners, rows),
+        Shape::Hex => test_corners(conn, HEX.corners, rows),
+        Shape::Phed => {
+            let mut corners = [0; 256];
+            let mut ends = [0; 85];
+            let kept = list_phed(conn, &mut corners, &mut ends);
+            test_corners(conn, &corners[..kept.corners], rows)
+        }
     }
-}
-
-// The same of a polyhedron.
-fn test_phed(conn: &[u64], rows: usize) -> Reading
-    requires { Testable conn.now (kept (stretches 0 conn.now)) }
-    ensures { reading_told result ≡ corners_tested conn.now rows
-        (flatten (kept (stretches 0 conn.now))) }
-{
-    let mut corners = [0u8; 256];
-    let mut ends = [0usize; 85];
-    let l = list_phed(conn, &mut corners, &mut ends);
-    let m = l.corners;
-    test_corners(conn, &corners[..m], rows)
-}
-
-// The same of a polygon, whose corners are its first n nodes.
-fn test_polygon(n: usize, conn: &[u64], rows: usize) -> Reading
-    requires { (n ≤ length conn.now) × (n ≤ 256) }
-    ensures { reading_told result ≡ corners_tested conn.now rows (flatten (polygon_of n)) }
-{
-    if n <= 4 {
-        return test_corners(conn, &RING[..n], rows);
-    }
-    let mut corners = [0u8; 256];
-    list_pgon(n, &mut corners);
-    test_corners(conn, &corners[..n], rows)
 }
 
 // Refusal 4, or how many corners these are.
-fn test_corners(conn: &[u64], corners: &[u8], rows: usize) -> Reading
-    requires { T (below (length conn.now) corners.now) }
-    ensures { reading_told result ≡ corners_tested conn.now rows corners.now }
+fn test_corners(conn: &[u64], corners: &[u8], rows: usize) -> Result<usize, Refusal>
+    requires { Below (length conn.now) corners.now }
+    ensures { outcome_of result ≡ corners_tested conn.now rows corners.now }
 {
-    if are_rows(conn, corners, rows) {
-        return Reading::Cell(corners.len());
+    for p in corners {
+        if rows <= node(conn, *p) {
+            return Err(Refusal::NoSuchRow);
+        }
     }
-    Reading::Refused(4)
+    Ok(corners.len())
 }
 
 // The corners of a cell of this shape, all of which are rows.
@@ -157,79 +135,82 @@ fn copy_faces(
         out.old out.new face_ends.old face_ends.new }
 {
     match s {
-        Shape::Tet => put_faces(&TET, &TET_ENDS, conn, coords, out, face_ends),
-        Shape::Wedge => put_faces(&WEDGE, &WEDGE_ENDS, conn, coords, out, face_ends),
-        Shape::Hex => put_faces(&HEX, &HEX_ENDS, conn, coords, out, face_ends),
-        Shape::Phed => copy_phed(conn, coords, out, face_ends),
+        Shape::Tet => put_faces(TET, conn, coords, out, face_ends),
+        Shape::Wedge => put_faces(WEDGE, conn, coords, out, face_ends),
+        Shape::Hex => put_faces(HEX, conn, coords, out, face_ends),
+        Shape::Phed => {
+            let mut corners = [0; 256];
+            let mut ends = [0; 85];
+            let kept = list_phed(conn, &mut corners, &mut ends);
+            let faces = FaceList {
+                corners: &corners[..kept.corners],
+                ends: &ends[..kept.faces],
+            };
+            put_faces(faces, conn, coords, out, face_ends)
+        }
     }
 }
 
-// The same of a polyhedron.
-fn copy_phed(conn: &[u64], coords: &[f64], out: &mut [f64], face_ends: &mut [usize]) -> Kept
-    requires { CopiesFaces conn.now coords.now (kept (stretches 0 conn.now)) out.old face_ends.old }
-    ensures { Copied (polygons 3 conn.now coords.now (kept (stretches 0 conn.now))) result
-        out.old out.new face_ends.old face_ends.new }
-{
-    let mut corners = [0u8; 256];
-    let mut ends = [0usize; 85];
-    let l = list_phed(conn, &mut corners, &mut ends);
-    let m = l.corners;
-    let f = l.faces;
-    put_faces(&corners[..m], &ends[..f], conn, coords, out, face_ends)
-}
-
-// The same of a polygon, whose corners are its first n nodes.
-fn copy_polygon(n: usize, conn: &[u64], coords: &[f64], out: &mut [f64])
-    requires { CopiesPolygon conn.now coords.now n out.old }
-    ensures { CopiedPolygon (polygons 2 conn.now coords.now (polygon_of n)) out.old
-        out.new }
-{
-    if n <= 4 {
-        return copy_rows(2, conn, coords, &RING[..n], out);
-    }
-    let mut corners = [0u8; 256];
-    list_pgon(n, &mut corners);
-    copy_rows(2, conn, coords, &corners[..n], out)
-}
-
-// The corners at these positions, and the faces that end here among them.
+// These faces.
 fn put_faces(
-    corners: &[u8],
-    ends: &[usize],
+    faces: FaceList,
     conn: &[u64],
     coords: &[f64],
     out: &mut [f64],
     face_ends: &mut [usize],
 ) -> Kept
-    requires { PutsFaces corners.now ends.now conn.now coords.now out.old face_ends.old }
-    ensures { PutFaces corners.now ends.now conn.now coords.now result
+    requires { PutsFaces faces conn.now coords.now out.old face_ends.old }
+    ensures { PutFaces faces.entry conn.now coords.now result
         out.old out.new face_ends.old face_ends.new }
 {
-    copy_rows(3, conn, coords, corners, out);
-    put(face_ends, ends);
+    copy_rows::<3>(conn, coords, faces.corners, out);
+    face_ends[..faces.ends.len()].copy_from_slice(faces.ends);
     Kept {
-        corners: corners.len(),
-        faces: ends.len(),
+        corners: faces.corners.len(),
+        faces: faces.ends.len(),
     }
 }
 
-// Each shape's faces, as positions in the connectivity in a row, and where each face ends among them.
-const TET: [u8; 12] = [0, 1, 3, 1, 2, 3, 2, 0, 3, 0, 2, 1];
+// Faces in a row: their corners, as positions in the connectivity, and where each ends among them.
+#[derive(Clone, Copy)]
+struct FaceList<'a> {
+    corners: &'a [u8],
+    ends: &'a [usize],
+}
 
-const TET_ENDS: [usize; 4] = [3, 6, 9, 12];
+const TET: FaceList = FaceList {
+    corners: &[0, 1, 3, 1, 2, 3, 2, 0, 3, 0, 2, 1],
+    ends: &[3, 6, 9, 12],
+};
 
-const WEDGE: [u8; 18] = [0, 2, 1, 3, 4, 5, 0, 1, 4, 3, 1, 2, 5, 4, 2, 0, 3, 5];
+const WEDGE: FaceList = FaceList {
+    corners: &[0, 2, 1, 3, 4, 5, 0, 1, 4, 3, 1, 2, 5, 4, 2, 0, 3, 5],
+    ends: &[3, 6, 10, 14, 18],
+};
 
-const WEDGE_ENDS: [usize; 5] = [3, 6, 10, 14, 18];
+const HEX: FaceList = FaceList {
+    corners: &[
+        0, 3, 2, 1, 4, 5, 6, 7, 0, 1, 5, 4, 2, 3, 7, 6, 1, 2, 6, 5, 3, 0, 4, 7,
+    ],
+    ends: &[4, 8, 12, 16, 20, 24],
+};
 
-const HEX: [u8; 24] = [
-    0, 3, 2, 1, 4, 5, 6, 7, 0, 1, 5, 4, 2, 3, 7, 6, 1, 2, 6, 5, 3, 0, 4, 7,
+// The positions in a connectivity; the first n are the corners of a polygon.
+const POSITIONS: [u8; 256] = [
+    0, 1, 2, 3, 4, 5, 6, 7, 8, 9, 10, 11, 12, 13, 14, 15, 16, 17, 18, 19, 20, 21, 22, 23, 24, 25,
+    26, 27, 28, 29, 30, 31, 32, 33, 34, 35, 36, 37, 38, 39, 40, 41, 42, 43, 44, 45, 46, 47, 48, 49,
+    50, 51, 52, 53, 54, 55, 56, 57, 58, 59, 60, 61, 62, 63, 64, 65, 66, 67, 68, 69, 70, 71, 72, 73,
+    74, 75, 76, 77, 78, 79, 80, 81, 82, 83, 84, 85, 86, 87, 88, 89, 90, 91, 92, 93, 94, 95, 96, 97,
+    98, 99, 100, 101, 102, 103, 104, 105, 106, 107, 108, 109, 110, 111, 112, 113, 114, 115, 116,
+    117, 118, 119, 120, 121, 122, 123, 124, 125, 126, 127, 128, 129, 130, 131, 132, 133, 134, 135,
+    136, 137, 138, 139, 140, 141, 142, 143, 144, 145, 146, 147, 148, 149, 150, 151, 152, 153, 154,
+    155, 156, 157, 158, 159, 160, 161, 162, 163, 164, 165, 166, 167, 168, 169, 170, 171, 172, 173,
+    174, 175, 176, 177, 178, 179, 180, 181, 182, 183, 184, 185, 186, 187, 188, 189, 190, 191, 192,
+    193, 194, 195, 196, 197, 198, 199, 200, 201, 202, 203, 204, 205, 206, 207, 208, 209, 210, 211,
+    212, 213, 214, 215, 216, 217, 218, 219, 220, 221, 222, 223, 224, 225, 226, 227, 228, 229, 230,
+    231, 232, 233, 234, 235, 236, 237, 238, 239, 240, 241, 242, 243, 244, 245, 246, 247, 248, 249,
+    250, 251, 252, 253, 254, 255,
 ];
-
-const HEX_ENDS: [usize; 6] = [4, 8, 12, 16, 20, 24];
-
-// The positions of the corners of a triangle or a quadrilateral.
-const RING: [u8; 4] = [0, 1, 2, 3];
 
 // The entry of a polyhedron that ends a face.
 const SEPARATOR: u64 = 0xffff_ffff_ffff_ffff;
@@ -237,18 +218,14 @@ const SEPARATOR: u64 = 0xffff_ffff_ffff_ffff;
 // The kept faces of a polyhedron: the positions between separators, without faces of under three.
 fn list_phed(conn: &[u64], corners: &mut [u8; 256], ends: &mut [usize; 85]) -> Kept
     requires { (length conn.now ≤ 256) × (length corners.old ≡ 256) × (length ends.old ≡ 85) }
-    ensures { Listed (kept (stretches 0 conn.now)) result.corners result.faces corners.new
-        ends.new }
+    ensures { Listed (kept (stretches 0 conn.now)) result corners.new ends.new }
 {
     let mut n = 0;
     let mut start = 0;
     let mut f = 0;
-    let mut i = 0;
-    while i < conn.len() {
-        let at = i;
-        i += 1;
-        if conn[at] != SEPARATOR {
-            corners[n] = at as u8;
+    for (i, node) in conn.iter().enumerate() {
+        if *node != SEPARATOR {
+            corners[n] = i as u8;
             n += 1;
         } else if n - start < 3 {
             n = start;
@@ -259,69 +236,24 @@ fn list_phed(conn: &[u64], corners: &mut [u8; 256], ends: &mut [usize; 85]) -> K
         }
     }
     if n - start < 3 {
-        return Kept {
-            corners: start,
-            faces: f,
-        };
+        n = start;
+    } else {
+        ends[f] = n;
+        f += 1;
     }
-    ends[f] = n;
     Kept {
         corners: n,
-        faces: f + 1,
+        faces: f,
     }
-}
-
-// The positions of the corners of a polygon with n nodes.
-fn list_pgon(n: usize, corners: &mut [u8; 256])
-    requires { (n ≤ 256) × (length corners.old ≡ 256) }
-    ensures { (n ≤ length corners.new) × (take n corners.new ≡ flatten (polygon_of n)) }
-{
-    let mut i = 0;
-    while i < n {
-        corners[i] = i as u8;
-        i += 1;
-    }
-}
-
-// The table written over the start of a slice.
-fn put(out: &mut [usize], table: &[usize])
-    requires { length table.now ≤ length out.old }
-    ensures { out.new ≡ over table.now out.old }
-{
-    let mut j = 0;
-    while j < table.len() {
-        out[j] = table[j];
-        j += 1;
-    }
-}
-
-// Whether every corner is among the rows.
-fn are_rows(conn: &[u64], corners: &[u8], rows: usize) -> bool
-    requires { T (below (length conn.now) corners.now) }
-    ensures { result ≡ are_rows conn.now rows corners.now }
-{
-    let mut j = 0;
-    while j < corners.len() {
-        if rows <= node(conn, corners[j]) {
-            return false;
-        }
-        j += 1;
-    }
-    true
 }
 
 // The corners' rows, one after the other.
-fn copy_rows(w: usize, conn: &[u64], coords: &[f64], corners: &[u8], out: &mut [f64])
-    requires { Copies w conn.now coords.now corners.now out.old }
-    ensures { out.new ≡ over (gathered w conn.now coords.now corners.now)
-        out.old }
+fn copy_rows<const W: usize>(conn: &[u64], coords: &[f64], corners: &[u8], out: &mut [f64])
+    requires { Copies W conn.now coords.now corners.now out.old }
+    ensures { out.new ≡ over (gathered W conn.now coords.now corners.now) out.old }
 {
-    let mut j = 0;
-    while j < corners.len() {
-        let a = w * node(conn, corners[j]);
-        let e = a + w;
-        copy(out, w * j, &coords[a..e]);
-        j += 1;
+    for (j, p) in corners.iter().enumerate() {
+        copy_row::<W>(coords, node(conn, *p), out, j);
     }
 }
 
@@ -330,19 +262,16 @@ fn node(conn: &[u64], p: u8) -> usize
     requires { p < length conn.now }
     ensures { result ≡ get_or conn.now p 0 }
 {
-    let i = p as usize;
-    conn[i] as usize
+    conn[p as usize] as usize
 }
 
-// The numbers of `from` written at `at`.
-fn copy(out: &mut [f64], at: usize, from: &[f64])
-    requires { at + length from.now ≤ length out.old }
-    ensures { out.new ≡ paste out.old at from.now
-        (length from.now) }
+// Row i of `from` written over row j of `out`.
+fn copy_row<const W: usize>(from: &[f64], i: usize, out: &mut [f64], j: usize)
+    requires from { W * i + W ≤ length from.now }
+    requires out { W * j + W ≤ length out.old }
+    ensures { out.new ≡ paste out.old (W * j) (row W from.now i) W }
 {
-    let mut j = 0;
-    while j < from.len() {
-        out[at + j] = from[j];
-        j += 1;
+    for k in 0..W {
+        out[W * j + k] = from[W * i + k];
     }
 }

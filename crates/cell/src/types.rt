@@ -1,7 +1,10 @@
 // The types of cells: their numbers, node counts, corner counts and shapes.
-ghost use Rattle.std.specs.Prelude.{◌≡◌};
-ghost use Rattle.cell.specs.Types.{allow, shape_numbered, shape_of, space_nodes, space_type};
-ghost use Rattle.cell.specs.Types.{corners_numbered, plane_corners, plane_nodes, plane_type};
+ghost use Rattle.std.specs.Prelude.{◌≡◌, ok_or};
+ghost use Rattle.rows.specs.declared.Refusal.TheVariants.{CellType};
+ghost use Rattle.cell.specs.Types.{allow, shape_of, space_nodes, space_type};
+ghost use Rattle.cell.specs.Types.{plane_corners, plane_nodes, plane_type};
+
+use rows::Refusal;
 
 // How many nodes a type has.
 #[derive(Clone, Copy)]
@@ -34,13 +37,6 @@ pub enum SpaceType {
     Phed,
 }
 
-// What a type number stands for in space.
-#[derive(Clone, Copy)]
-pub enum InSpace {
-    Known(SpaceType),
-    Unknown,
-}
-
 // The types by their faces.
 #[derive(Clone, Copy)]
 pub enum Shape {
@@ -48,6 +44,27 @@ pub enum Shape {
     Wedge,
     Hex,
     Phed,
+}
+
+// The type with a number.
+impl TryFrom<u8> for SpaceType {
+    type Error = Refusal;
+
+    ghost try_from_gives = { λ n r. r ≡ ok_or (space_type n) CellType };
+
+    #[tactic(auto, unfolding(crate::specs::Types::space_type))]
+    fn try_from(cell_type: u8) -> Result<SpaceType, Refusal> {
+        match cell_type {
+            SpaceType::TET4 => Ok(SpaceType::Tet4),
+            SpaceType::TET10 => Ok(SpaceType::Tet10),
+            SpaceType::HEX8 => Ok(SpaceType::Hex8),
+            SpaceType::HEX21 => Ok(SpaceType::Hex21),
+            SpaceType::WEDGE6 => Ok(SpaceType::Wedge6),
+            SpaceType::WEDGE15 => Ok(SpaceType::Wedge15),
+            SpaceType::PHED => Ok(SpaceType::Phed),
+            _ => Err(Refusal::CellType),
+        }
+    }
 }
 
 impl SpaceType {
@@ -81,22 +98,6 @@ impl SpaceType {
 
     pub const PHED_NODES: usize = 256;
 
-    // The type with a number.
-    pub fn of_number(cell_type: u8) -> InSpace
-        ensures { result ≡ space_type cell_type }
-    {
-        match cell_type {
-            SpaceType::TET4 => InSpace::Known(SpaceType::Tet4),
-            SpaceType::TET10 => InSpace::Known(SpaceType::Tet10),
-            SpaceType::HEX8 => InSpace::Known(SpaceType::Hex8),
-            SpaceType::HEX21 => InSpace::Known(SpaceType::Hex21),
-            SpaceType::WEDGE6 => InSpace::Known(SpaceType::Wedge6),
-            SpaceType::WEDGE15 => InSpace::Known(SpaceType::Wedge15),
-            SpaceType::PHED => InSpace::Known(SpaceType::Phed),
-            _ => InSpace::Unknown,
-        }
-    }
-
     // Its node count.
     pub fn nodes(self) -> Nodes
         ensures { result ≡ space_nodes self }
@@ -112,27 +113,14 @@ impl SpaceType {
         }
     }
 
-    // The shape of the type with a number; of a number that has none a polyhedron, whose faces any connectivity has.
-    pub fn shape_of(cell_type: u8) -> Shape
-        ensures { result ≡ shape_numbered cell_type }
-    {
-        let InSpace::Known(k) = SpaceType::of_number(cell_type) else {
-            return Shape::Phed;
-        };
-        k.shape()
-    }
-
     // The shape whose faces it has.
     pub fn shape(self) -> Shape
         ensures { result ≡ shape_of self }
     {
         match self {
-            SpaceType::Tet4 => Shape::Tet,
-            SpaceType::Tet10 => Shape::Tet,
-            SpaceType::Hex8 => Shape::Hex,
-            SpaceType::Hex21 => Shape::Hex,
-            SpaceType::Wedge6 => Shape::Wedge,
-            SpaceType::Wedge15 => Shape::Wedge,
+            SpaceType::Tet4 | SpaceType::Tet10 => Shape::Tet,
+            SpaceType::Hex8 | SpaceType::Hex21 => Shape::Hex,
+            SpaceType::Wedge6 | SpaceType::Wedge15 => Shape::Wedge,
             SpaceType::Phed => Shape::Phed,
         }
     }
@@ -150,11 +138,25 @@ pub enum PlaneType {
     Pgon,
 }
 
-// What a type number stands for in the plane.
-#[derive(Clone, Copy)]
-pub enum InPlane {
-    Known(PlaneType),
-    Unknown,
+// The type with a number.
+impl TryFrom<u8> for PlaneType {
+    type Error = Refusal;
+
+    ghost try_from_gives = { λ n r. r ≡ ok_or (plane_type n) CellType };
+
+    #[tactic(auto, unfolding(crate::specs::Types::plane_type))]
+    fn try_from(cell_type: u8) -> Result<PlaneType, Refusal> {
+        match cell_type {
+            PlaneType::TRI3 => Ok(PlaneType::Tri3),
+            PlaneType::TRI6 => Ok(PlaneType::Tri6),
+            PlaneType::TRI7 => Ok(PlaneType::Tri7),
+            PlaneType::QUAD4 => Ok(PlaneType::Quad4),
+            PlaneType::QUAD8 => Ok(PlaneType::Quad8),
+            PlaneType::QUAD9 => Ok(PlaneType::Quad9),
+            PlaneType::PGON => Ok(PlaneType::Pgon),
+            _ => Err(Refusal::CellType),
+        }
+    }
 }
 
 impl PlaneType {
@@ -193,22 +195,6 @@ impl PlaneType {
 
     pub const PGON_NODES: usize = 256;
 
-    // The type with a number.
-    pub fn of_number(cell_type: u8) -> InPlane
-        ensures { result ≡ plane_type cell_type }
-    {
-        match cell_type {
-            PlaneType::TRI3 => InPlane::Known(PlaneType::Tri3),
-            PlaneType::TRI6 => InPlane::Known(PlaneType::Tri6),
-            PlaneType::TRI7 => InPlane::Known(PlaneType::Tri7),
-            PlaneType::QUAD4 => InPlane::Known(PlaneType::Quad4),
-            PlaneType::QUAD8 => InPlane::Known(PlaneType::Quad8),
-            PlaneType::QUAD9 => InPlane::Known(PlaneType::Quad9),
-            PlaneType::PGON => InPlane::Known(PlaneType::Pgon),
-            _ => InPlane::Unknown,
-        }
-    }
-
     // Its node count.
     pub fn nodes(self) -> Nodes
         ensures { result ≡ plane_nodes self }
@@ -224,27 +210,13 @@ impl PlaneType {
         }
     }
 
-    // The corner count of the type with a number; of a number that has none all n nodes.
-    pub fn corners_of(cell_type: u8, n: usize) -> usize
-        ensures { result ≡ corners_numbered cell_type n }
-    {
-        let InPlane::Known(k) = PlaneType::of_number(cell_type) else {
-            return n;
-        };
-        k.corners(n)
-    }
-
     // Its corner count: of n nodes the first so many are the corners.
     pub fn corners(self, n: usize) -> usize
         ensures { result ≡ plane_corners self n }
     {
         match self {
-            PlaneType::Tri3 => PlaneType::TRI_CORNERS,
-            PlaneType::Tri6 => PlaneType::TRI_CORNERS,
-            PlaneType::Tri7 => PlaneType::TRI_CORNERS,
-            PlaneType::Quad4 => PlaneType::QUAD_CORNERS,
-            PlaneType::Quad8 => PlaneType::QUAD_CORNERS,
-            PlaneType::Quad9 => PlaneType::QUAD_CORNERS,
+            PlaneType::Tri3 | PlaneType::Tri6 | PlaneType::Tri7 => PlaneType::TRI_CORNERS,
+            PlaneType::Quad4 | PlaneType::Quad8 | PlaneType::Quad9 => PlaneType::QUAD_CORNERS,
             PlaneType::Pgon => n,
         }
     }

@@ -1,11 +1,6 @@
 -- `list_phed` meets its contract. The invariant: the entries before i are listed, the last face being open. Assumes nothing.
-use Prim.Native.Nat.{◌-◌}
-use lib.ListN.{length}
 use Rattle.cell.proofs.Polyhedron.{Going}
 use Rattle.cell.proofs.list_phed.Given as goal
 
 abbrev pub invariant-loop-i : goal.invariant-loop-i
 invariant-loop-i l = Going l.conn l.corners l.ends l.n l.start l.f l.i
-
-abbrev pub decreases-loop-i : goal.decreases-loop-i
-decreases-loop-i l = length l.conn - l.i

@@ -14,9 +14,6 @@ pub test_corners-requires-in-Hex : goal.test_corners-requires-in-Hex
 unfolding flatten
 test_corners-requires-in-Hex c = (rw c.in-Hex.is at c.requires).inside
 
-pub test_phed-requires : goal.test_phed-requires
-test_phed-requires c = rw c.in-Phed.is at c.requires
-
 pub returns-in-Tet : goal.returns-in-Tet
 unfolding flatten
 returns-in-Tet c = rw c.in-Tet.is c.test_corners.ensures
@@ -28,6 +25,3 @@ returns-in-Wedge c = rw c.in-Wedge.is c.test_corners-in-Wedge.ensures
 pub returns-in-Hex : goal.returns-in-Hex
 unfolding flatten
 returns-in-Hex c = rw c.in-Hex.is c.test_corners-in-Hex.ensures
-
-pub returns-in-Phed : goal.returns-in-Phed
-returns-in-Phed c = rw c.in-Phed.is c.test_phed.ensures
