@@ -11,16 +11,18 @@ use Rattle.clip.specs.declared.Found.{Found}
 use Rattle.rows.specs.Outcome.{Outcome, refused, found}
 use Rattle.cuts.specs.Lines.{GaveLine, ToldLine, line_told}
 use Rattle.cuts.proofs.Segments.{segments_over}
-use Rattle.cuts.specs.declared.Line.TheVariants.{Refused, Cut}
+use Rattle.rows.specs.Refusals.{number}
+use Rattle.rows.specs.declared.Refusal.{Refusal}
+use Rattle.std.specs.Prelude.{Ok, Err}
 
 -- a refusal leaves the buffer as it is
-pub line_refused : {o : Outcome (List Seg)} {k : ℕ} (numbers : List Float) → o ≡ refused k → GaveLine o (line_told (Refused k)) numbers
+pub line_refused : {o : Outcome (List Seg)} (k : Refusal) (numbers : List Float) → o ≡ refused (number k) → GaveLine o (line_told (Err k)) numbers
     numbers
-line_refused numbers e = rw e (record { told_is = refl; numbers_are = refl })
+line_refused k numbers e = rw e (record { told_is = refl; numbers_are = refl })
 
 -- segments that were written
 pub line_gave : {o : Outcome (List Seg)} {w : ℕ} {xs : List Float} {ss : List Seg} {r : Found} {zs : List Float} → o ≡ found ss
-    → Segments w xs ss r.segments zs → length zs ≡ length xs → w * (2 * r.segments) ≤ length xs → GaveLine o (line_told (Cut r)) xs zs
+    → Segments w xs ss r.segments zs → length zs ≡ length xs → w * (2 * r.segments) ≤ length xs → GaveLine o (line_told (Ok r)) xs zs
 line_gave {w = w} {r = r} {zs = zs} e h l room =
     rw e
     (record {

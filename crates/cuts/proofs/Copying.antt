@@ -6,7 +6,7 @@ use native.Mathlib.Omega.{arith}
 use lib.Ieee.{Float}
 use lib.ListN.{length, take, drop, length-append}
 use Rattle.rows.proofs.Lists.{length_ends}
-use Rattle.vector.specs.Vector.{Frame}
+use Rattle.vector.specs.declared.Plane.{Plane}
 use Rattle.vector.specs.Rows.{ends_from, over}
 use Rattle.vector.proofs.Rows.{segs_length}
 use Rattle.cell.specs.Read.{Polygon, Cell, space_cell, polygons_of, corners_of, Accepted, Copied}
@@ -16,7 +16,7 @@ use Rattle.clip.specs.Code.{Fit, Segments}
 use Rattle.clip.proofs.Bound.{cell_bound}
 use Rattle.stitch.specs.Code.{Stitchable}
 use Rattle.cuts.specs.Cuts.{segments_on}
-use Rattle.cuts.specs.Code.{CanSection, CellWithin}
+use Rattle.cuts.specs.Code.{CanSection, CellFits, CellWithin}
 use Rattle.cuts.proofs.Sizes.{any_within, copied_back, copied_fit, corners_in_all}
 
 -- ---- what was copied, as its reader takes it
@@ -51,24 +51,30 @@ module _ (k : Cell) (a : Accepted (space_cell k)) {r : Kept} {coords coords' : L
       subst (λ i. Fit 0 (take r.faces ends') i p q) (sym corners)
       (subst (λ l. Fit 0 l (length (flatten ps)) p q) (sym e) (copied_fit n p q ps ends w.each x y))
 
-  -- what clipping needs
-  pub clips : {m f n : ℕ} (p q : ℕ) (out : List Float) → CellWithin m f n k → 3 * m ≤ length coords → length coords' ≡ length coords
+  -- what clipping needs, by sizes
+  clips : {m f n : ℕ} (p q : ℕ) (out : List Float) → CellWithin m f n k → 3 * m ≤ length coords → length coords' ≡ length coords
       → 3 * at_most n ≤ p → 6 * at_most n ≤ q → 6 * corners_of (space_cell k) ≤ length out
       → Fit 0 (take r.faces ends') r.corners p q × (3 * r.corners ≤ length coords') × (4 * at_most r.corners ≤ length out)
   clips {n = n} p q out w x l y z room = (fit n p q w y z, omega (arith, corners, w.corners), omega (arith, corners))
 
+  -- and in scratch that fits
+  pub fitted : {x f p q : ℕ} (out : List Float) → CellFits x f p q k → x ≡ length coords → length coords' ≡ length coords
+      → 6 * corners_of (space_cell k) ≤ length out
+      → Fit 0 (take r.faces ends') r.corners p q × (3 * r.corners ≤ length coords') × (4 * at_most r.corners ≤ length out)
+  fitted {p = p} {q = q} out v e l room =
+      let u = v.corners in clips p q out v.within (omega arith) l v.points v.segments room
+
 -- ---- stitching
 
-pub lent : {k : Cell} {numbers : List Float} {nodes ends : List ℕ} {segments out : List Float} {s m f n : ℕ} (l : Frame)
-    (tol : Float) → CanSection k numbers nodes ends → CellWithin m f n k → 6 * m ≤ length segments
+pub lent : {k : Cell} {numbers : List Float} {nodes ends : List ℕ} {segments out : List Float} {s : ℕ} (l : Plane)
+    (tol : Float) → CanSection k numbers nodes ends → 6 * corners_of (space_cell k) ≤ length segments
     → Segments 2 segments (segments_on l tol (polygons_of (space_cell k))) s out → length out ≡ length segments
     → Stitchable s out numbers nodes ends
-lent {k} {out = out} {s = s} f tol h w v g l =
+lent {k} {out = out} {s = s} f tol h v g l =
     let ps = polygons_of (space_cell k) in
     let n : s ≡ length (segments_on f tol ps) = sym (segs_length 2 s out) ∙ ap length g.are in
     let b = cell_bound (cut_by f tol) f ps in
     let m = corners_in_all ps in
-    let i = w.corners in
     let j = (any_within k h.accepted).corners in
     let r = h.roomy in
     let x = r.for_numbers in

@@ -10,10 +10,11 @@ use lib.ListN.{length}
 use Rattle.rows.specs.Outcome.{Outcome, refused, found, and_then, unless, Sound}
 use Rattle.rows.proofs.Outcomes.{sound_then, never_both}
 use Rattle.cell.specs.Types.{allow}
-use Rattle.cell.specs.Read.{Polygon, Typed, untyped, typed, are_rows, polygons, read_as, polygons_of, corners_of, Accepted, reading_told}
+use Rattle.cell.specs.Read.{Polygon, Typed, untyped, typed, are_rows, polygons, read_as, polygons_of, corners_of, Accepted}
 use Rattle.cell.specs.Read.{Cell, space_cell, Tested}
-use Rattle.cell.specs.declared.Reading.{Reading}
-use Rattle.cell.specs.declared.Reading.TheVariants as R
+use Rattle.rows.specs.Refusals.{number, outcome_of}
+use Rattle.rows.specs.declared.Refusal.{Refusal}
+use Rattle.std.specs.Prelude.{Result, Ok, Err}
 use Rattle.cuts.specs.Cuts.{cut_cell}
 use Rattle.cuts.proofs.Sizes.{any_within}
 
@@ -34,18 +35,18 @@ cell_only (found ps) m e = record { is = refl; corners = cc }
 
 -- ---- the steps of an entry
 
-module _ {o : Outcome (List Polygon)} {r : Reading} (h : Tested o r) where
+module _ {o : Outcome (List Polygon)} {r : Result ℕ Refusal} (h : Tested o r) where
   -- 1 to 4
-  pub was_refused : {k : ℕ} → r ≡ R.Refused k → o ≡ refused k
-  was_refused {k} e = refused_only o k (ap reading_told (sym e) ∙ h.tells)
+  pub was_refused : {k : Refusal} → r ≡ Err k → o ≡ refused (number k)
+  was_refused {k} e = refused_only o (number k) (ap outcome_of (sym e) ∙ h.tells)
 
-  pub cell_refused : {A B : Type 0} (by : Outcome B) (work : ℕ → List Polygon → B → Outcome A) {k : ℕ} → r ≡ R.Refused k
-      → cut_cell o by work ≡ refused k
+  pub cell_refused : {A B : Type 0} (by : Outcome B) (work : ℕ → List Polygon → B → Outcome A) {k : Refusal} → r ≡ Err k
+      → cut_cell o by work ≡ refused (number k)
   cell_refused by work e = ap (λ i. cut_cell i by work) (was_refused e)
 
-  module _ {m : ℕ} (e : r ≡ R.Cell m) where
+  module _ {m : ℕ} (e : r ≡ Ok m) where
     accepted : IsCell o m
-    accepted = cell_only o m (ap reading_told (sym e) ∙ h.tells)
+    accepted = cell_only o m (ap outcome_of (sym e) ∙ h.tells)
 
     pub was_accepted : Accepted o
     was_accepted = accepted.is
@@ -66,7 +67,7 @@ module _ {o : Outcome (List Polygon)} {r : Reading} (h : Tested o r) where
           ∙ ap (λ k. work k (polygons_of o) b) (sym corners_told) ∙ w
 
 -- m is small
-pub corners_few : (k : Cell) {r : Reading} → Tested (space_cell k) r → {m : ℕ} → r ≡ R.Cell m → m ≤ 256
+pub corners_few : (k : Cell) {r : Result ℕ Refusal} → Tested (space_cell k) r → {m : ℕ} → r ≡ Ok m → m ≤ 256
 corners_few k h e = omega (arith, corners_told h e, (any_within k (was_accepted h e)).corners)
 
 -- ---- what a cut can answer

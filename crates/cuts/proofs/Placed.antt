@@ -11,7 +11,9 @@ use lib.ListN.{length}
 use lib.Seq.{take_all}
 use Rattle.rows.specs.Outcome.{Outcome, refused, Sound}
 use Rattle.rows.proofs.Outcomes.{sound_unless}
-use Rattle.vector.specs.Vector.{Vector, Framed, framed, unframed}
+use Rattle.vector.specs.Vector.{Vector}
+use Rattle.vector.specs.declared.Plane.{Plane}
+use Rattle.std.specs.Prelude.{Option, Some, None}
 use Rattle.vector.specs.Rows.{row}
 use Rattle.cuts.specs.Cuts.{Through, frame_in, frame_by, place_in, placed_by}
 use Rattle.cuts.specs.declared.Way.{Way}
@@ -40,17 +42,17 @@ pub made_of : {A : Type 0} (w : ℕ) (g : Through) (make : Vector → Vector →
     → length g.vector ≡ w → a ≡ row w g.origin 0 → b ≡ row w g.vector 0 → x ≡ make a b → x ≡ make g.origin g.vector
 made_of w g make lo lv ea eb e = e ∙ rw (ea, eb, whole_row w g.origin lo, whole_row w g.vector lv)
 
-pub frame_made : (way : Way) (g : Through) {x : Framed} {a b : Vector} → length g.origin ≡ 3 → length g.vector ≡ 3
+pub frame_made : (way : Way) (g : Through) {x : Option Plane} {a b : Vector} → length g.origin ≡ 3 → length g.vector ≡ 3
     → a ≡ row 3 g.origin 0 → b ≡ row 3 g.vector 0 → x ≡ frame_by way a b → frame_in x ≡ place_in way g
 frame_made way g lo lv ea eb e =
     ap frame_in (made_of 3 g (frame_by way) lo lv ea eb e) ∙ both_fit 3 g (frame_in (frame_by way g.origin g.vector)) lo lv
 
 -- a plane that was placed is the one that was asked for
-frame_sound : (x : Framed) → Sound 1 7 (λ f. x ≡ framed f) (frame_in x)
-frame_sound (framed f) = refl
-frame_sound unframed = (omega arith, omega arith)
+frame_sound : (x : Option Plane) → Sound 1 7 (λ f. x ≡ Some f) (frame_in x)
+frame_sound (Some f) = refl
+frame_sound None = (omega arith, omega arith)
 
-pub place_sound : (way : Way) (g : Through) → Sound 1 7 (λ f. frame_by way g.origin g.vector ≡ framed f) (place_in way g)
+pub place_sound : (way : Way) (g : Through) → Sound 1 7 (λ f. frame_by way g.origin g.vector ≡ Some f) (place_in way g)
 place_sound way g =
-    sound_placed 3 g (frame_in (frame_by way g.origin g.vector)) (λ f. frame_by way g.origin g.vector ≡ framed f)
+    sound_placed 3 g (frame_in (frame_by way g.origin g.vector)) (λ f. frame_by way g.origin g.vector ≡ Some f)
     (frame_sound (frame_by way g.origin g.vector))

@@ -1,22 +1,24 @@
 -- What the clauses of the code cite, here and in the crates of the cuts. Definitions only.
 use mathlib.Core.List.{List, flatten}
 use Rattle.std.specs.Prelude.{ℕ, ◌*◌, ◌/◌, ◌≤◌, length, Float}
-use Rattle.rows.specs.Outcome.{Outcome, refused, found}
-use Rattle.vector.specs.View.{frame_of}
-use Rattle.vector.specs.Vector.{Frame}
+use Rattle.vector.specs.Vector.{Vector}
+use Rattle.vector.specs.declared.Plane.{Plane}
 use Rattle.cell.specs.Read.{Polygon, Cell, space_cell, polygons_of, corners_of, Accepted}
+use Rattle.clip.specs.Cell.{at_most}
 use Rattle.walk.specs.Walk.{All}
 use Rattle.stitch.specs.Code.{AnswerGiven}
 use Rattle.stitch.specs.Entry.{Buffers}
-use Rattle.stitch.specs.declared.alone.Sectioned.{Sectioned}
-use Rattle.cuts.specs.Cuts.{section_of}
-use Rattle.cuts.specs.declared.Placing as P
-use Rattle.cuts.specs.declared.Placing.TheVariants as p
+use Rattle.stitch.specs.declared.Stitched.{Stitched}
+use Rattle.cuts.specs.Cuts.{Through, section_of, through}
+use Rattle.cuts.specs.declared.Through as code
 
--- the plane that a placing found
-abbrev pub placing : P.Placing → Outcome Frame
-placing (p.Refused k) = refused k
-placing (p.On f) = found (frame_of f)
+-- a cut as the code is lent it
+abbrev pub through_of : code.Through → Through
+through_of g = through g.origin.now g.vector.now
+
+-- its point and its vector
+abbrev pub rows_of : code.Through → Vector × Vector
+rows_of g = (g.origin.now, g.vector.now)
 
 -- ---- what the work on an accepted cell in space needs
 
@@ -37,11 +39,11 @@ pub record CanSection (k : Cell) (numbers : List Float) (nodes ends : List ℕ) 
   pub roomy : Roomy (corners_of (space_cell k)) numbers nodes ends
 
 -- the section of polygons by a plane is given
-pub record SectionGiven (f : Frame) (tol : Float) (ps : List Polygon) (r : Sectioned) (b b' : Buffers) : Type 0 where
+pub record SectionGiven (f : Plane) (tol : Float) (ps : List Polygon) (r : Stitched) (b b' : Buffers) : Type 0 where
   pub stitched
-      : AnswerGiven (section_of f tol ps) r.stitched b.numbers b'.numbers b.nodes b'.nodes b.ends b'.ends
+      : AnswerGiven (section_of f tol ps) r b.numbers b'.numbers b.nodes b'.nodes b.ends b'.ends
 
--- ---- the tiers of scratch
+-- ---- the sizes of scratch
 
 -- every polygon has at most n corners
 abbrev pub EachAtMost : ℕ → List Polygon → Type 0
@@ -56,3 +58,15 @@ pub record Within (m f n : ℕ) (ps : List Polygon) : Type 0 where
 -- those of a cell in space
 abbrev pub CellWithin : ℕ → ℕ → ℕ → Cell → Type 0
 CellWithin m f n k = Within m f n (polygons_of (space_cell k))
+
+-- scratch of c numbers of corners, f face ends, p numbers of clipped points and q of segments in space holds polygons within some sizes
+pub record Fits (c f p q : ℕ) (ps : List Polygon) : Type 0 where
+  pub most : ℕ
+  pub most_of_face : ℕ
+  pub within : Within most f most_of_face ps
+  pub corners : 3 * most ≤ c
+  pub points : 3 * at_most most_of_face ≤ p
+  pub segments : 6 * at_most most_of_face ≤ q
+
+abbrev pub CellFits : ℕ → ℕ → ℕ → ℕ → Cell → Type 0
+CellFits c f p q k = Fits c f p q (polygons_of (space_cell k))

@@ -1,9 +1,10 @@
 -- What all cuts of docs/RULES.md share: how a cut is placed, the order of their refusals, and the section of a cell by a plane.
 -- Definitions only.
 use mathlib.Core.List.{List, flatten}
-use Rattle.std.specs.Prelude.{◌&&◌, ℕ, eqb, length, Float}
+use Rattle.std.specs.Prelude.{◌&&◌, ℕ, eqb, length, Float, Option, Some, None}
 use Rattle.rows.specs.Outcome.{Outcome, refused, found, and_then, unless}
-use Rattle.vector.specs.Vector.{Frame, Framed, framed, unframed, plane_of, line_of}
+use Rattle.vector.specs.Vector.{plane_of, line_of}
+use Rattle.vector.specs.declared.Plane.{Plane}
 use Rattle.vector.specs.Rows.{Seg}
 use Rattle.cell.specs.Read.{Polygon}
 use Rattle.clip.specs.Cell.{cut_by, cell_segments}
@@ -26,17 +27,17 @@ abbrev pub placed_by : {A : Type 0} → ℕ → Through → Outcome A → Outcom
 placed_by w g next = unless 5 (eqb (length g.origin) w && eqb (length g.vector) w) next
 
 -- 6: a unit was taken of a vector whose norm is not greater than 0
-abbrev pub frame_in : Framed → Outcome Frame
-frame_in unframed = refused 6
-frame_in (framed f) = found f
+abbrev pub frame_in : Option Plane → Outcome Plane
+frame_in None = refused 6
+frame_in (Some f) = found f
 
 -- the plane with a normal, or the plane that holds the line with a direction
-abbrev pub frame_by : W.Way → List Float → List Float → Framed
+abbrev pub frame_by : W.Way → List Float → List Float → Option Plane
 frame_by w.Normal = plane_of
 frame_by w.Direction = line_of
 
 -- 5 and 6 in space
-abbrev pub place_in : W.Way → Through → Outcome Frame
+abbrev pub place_in : W.Way → Through → Outcome Plane
 place_in way g = placed_by 3 g (frame_in (frame_by way g.origin g.vector))
 
 -- ---- a cut
@@ -49,9 +50,9 @@ cut_cell cell by work = and_then cell (λ ps. and_then by (work (length (flatten
 -- ---- the section of a cell by a plane
 
 -- the segments of polygons on a plane, in the plane's own coordinates
-abbrev pub segments_on : Frame → Float → List Polygon → List Seg
+abbrev pub segments_on : Plane → Float → List Polygon → List Seg
 segments_on f tol ps = cell_segments (cut_by f tol) f ps
 
 -- the section of polygons by a plane
-abbrev pub section_of : Frame → Float → List Polygon → Answer
+abbrev pub section_of : Plane → Float → List Polygon → Answer
 section_of f tol ps = stitched tol (segments_on f tol ps)

@@ -1,9 +1,10 @@
 -- The answer of a cut that gives segments only, and what the caller then sees. Definitions only.
-use Rattle.std.specs.Prelude.{◌≡◌, List, [], ◌∷◌, ◌++◌, ℕ, length, Float}
+use Rattle.std.specs.Prelude.{◌≡◌, List, [], ◌∷◌, ◌++◌, ℕ, length, Float, Result, Ok, Err}
 use Rattle.rows.specs.Outcome.{Outcome, refused, found}
 use Rattle.vector.specs.Rows.{Seg, seg, over}
-use Rattle.cuts.specs.declared.Line as L
-use Rattle.cuts.specs.declared.Line.TheVariants as l
+use Rattle.rows.specs.Refusals.{number}
+use Rattle.rows.specs.declared.Refusal.{Refusal}
+use Rattle.clip.specs.declared.Found.{Found}
 
 -- what the answer tells: the number of a refusal, or 0; how many segments are written, 0 with a refusal
 pub record ToldLine : Type 0 where
@@ -15,9 +16,9 @@ told_line (refused k) = record { refusal = k; segments = 0 }
 told_line (found ss) = record { refusal = 0; segments = length ss }
 
 -- the rules' number and value for each case of the code's answer
-abbrev pub line_told : L.Line → ToldLine
-line_told (l.Refused k) = record { refusal = k; segments = 0 }
-line_told (l.Cut r) = record { refusal = 0; segments = r.segments }
+abbrev pub line_told : Result Found Refusal → ToldLine
+line_told (Err refusal) = record { refusal = number refusal; segments = 0 }
+line_told (Ok r) = record { refusal = 0; segments = r.segments }
 
 -- the numbers of some segments, first end then second; a refusal writes none
 abbrev pub flat : List Seg → List Float

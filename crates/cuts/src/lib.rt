@@ -1,19 +1,22 @@
 // What all cuts share: placing, and the segments and the section of an accepted cell on a plane.
 #![tactic(auto)]
 
-ghost use Rattle.std.specs.Prelude.{◌≡◌};
-ghost use Rattle.vector.specs.View.{frame_of, placed, vec3};
-ghost use Rattle.cell.specs.Read.{cell, polygons_of, space_cell};
+ghost use Rattle.std.specs.Prelude.{◌≡◌, ◌*◌, ◌≤◌};
+ghost use Rattle.rows.specs.Outcome.{found};
+ghost use Rattle.rows.specs.Refusals.{outcome_of};
+ghost use Rattle.cell.specs.Read.{cell_of, corners_of, polygons_of, space_cell};
 ghost use Rattle.clip.specs.Cell.{cut_by};
 ghost use Rattle.clip.specs.Code.{CellCut};
 ghost use Rattle.stitch.specs.Entry.{buffers};
-ghost use Rattle.cuts.specs.Cuts.{frame_by, place_in, through};
-ghost use Rattle.cuts.specs.Code.{placing, CanGather, CanSection, CellWithin, SectionGiven};
+ghost use Rattle.cuts.specs.Cuts.{frame_by, place_in, placed_by};
+ghost use Rattle.cuts.specs.Code.{CanGather, CanSection, CellFits, SectionGiven, rows_of, through_of};
 
+use cell::Cell;
 use cell::types::SpaceType;
 use clip::Found;
-use stitch::alone::Sectioned;
-use vector::{Placed, Plane, Vec3};
+use rows::Refusal;
+use stitch::Stitched;
+use vector::{Plane, coord};
 
 // What the vector is that a cut is given by.
 #[derive(Clone, Copy)]
@@ -22,39 +25,36 @@ pub enum Way {
     Direction,
 }
 
-// The number of a refusal, or the plane that cuts.
+// A cut as it is given: a point of it, and its normal or its direction.
 #[derive(Clone, Copy)]
-pub enum Placing {
-    Refused(u8),
-    On(Plane),
+pub struct Through<'a> {
+    pub origin: &'a [f64],
+    pub vector: &'a [f64],
 }
 
-// The number of a refusal, or the segments.
-#[derive(Clone, Copy)]
-pub enum Line {
-    Refused(u8),
-    Cut(Found),
-}
+impl Through<'_> {
+    // The plane through origin with this normal, or the one that holds the line with this direction; or refusal 5 or 6.
+    pub fn place(&self, way: Way) -> Result<Plane, Refusal>
+        ensures { outcome_of result ≡ place_in way (through_of self.now) }
+    {
+        let (origin, vector) = self.rows::<3>()?;
+        plane_by(way, origin, vector).ok_or(Refusal::NoDirection)
+    }
 
-// The plane through origin with this normal, or the one that holds the line with this direction; or refusal 5 or 6.
-pub fn place(way: Way, origin: &[f64], vector: &[f64]) -> Placing
-    ensures { placing result ≡ place_in way (through origin.now vector.now) }
-{
-    if origin.len() != 3 {
-        return Placing::Refused(5);
-    }
-    if vector.len() != 3 {
-        return Placing::Refused(5);
-    }
-    match plane_by(way, vector::coord3(origin, 0), vector::coord3(vector, 0)) {
-        Placed::On(p) => Placing::On(p),
-        Placed::Nowhere => Placing::Refused(6),
+    // The point and the vector, if both have D coordinates, or refusal 5.
+    pub fn rows<const D: usize>(&self) -> Result<([f64; D], [f64; D]), Refusal>
+        ensures { outcome_of result ≡ placed_by D (through_of self.now) (found (rows_of self.now)) }
+    {
+        if self.origin.len() != D || self.vector.len() != D {
+            return Err(Refusal::VectorLength);
+        }
+        Ok((coord(self.origin, 0), coord(self.vector, 0)))
     }
 }
 
 // The plane by its normal or by a line's direction.
-fn plane_by(way: Way, origin: Vec3, vector: Vec3) -> Placed
-    ensures { placed result ≡ frame_by way (vec3 origin) (vec3 vector) }
+fn plane_by(way: Way, origin: [f64; 3], vector: [f64; 3]) -> Option<Plane>
+    ensures { result ≡ frame_by way origin vector }
 {
     match way {
         Way::Normal => Plane::new(origin, vector),
@@ -64,222 +64,93 @@ fn plane_by(way: Way, origin: Vec3, vector: Vec3) -> Placed
 
 // The segments of an accepted cell on a plane, in the plane's own coordinates, written over the start of `out`.
 //
-// Scratch comes in three tiers, a function each, so that small cells do not pay for large ones: fixed types have at most
-// 24 face corners, four a face; small polyhedra at most 88 entries; and others 256.
-pub fn gather_cell(
-    cell_type: u8,
-    conn: &[u64],
-    coords: &[f64],
+// Scratch comes in three sizes, so that small cells do not pay for large ones: fixed types have at most 24 face corners,
+// four a face; small polyhedra at most 88 entries; and others 256.
+pub fn gather_cell(cell: &Cell, plane: Plane, tol: f64, out: &mut [f64]) -> Found
+    requires { CanGather (cell_of cell.now) out.old }
+    ensures { CellCut (cut_by plane tol) plane (polygons_of (space_cell (cell_of cell.now))) out.old
+        result out.new }
+{
+    if cell.cell_type != SpaceType::PHED {
+        return gather_within::<72, 6, 18, 36>(cell, plane, tol, out);
+    }
+    if cell.conn.len() <= 88 {
+        return gather_within::<264, 29, 396, 792>(cell, plane, tol, out);
+    }
+    gather_within::<768, 85, 1152, 2304>(cell, plane, tol, out)
+}
+
+// The same with scratch for so many numbers of corners, for so many faces, and for so many numbers of one face's clipped points and of
+// its segments.
+#[inline(never)]
+fn gather_within<const CORNERS: usize, const FACES: usize, const POINTS: usize, const SPACE: usize>(
+    cell: &Cell,
     plane: Plane,
     tol: f64,
     out: &mut [f64],
 ) -> Found
-    requires { CanGather (cell cell_type conn.now coords.now) out.old }
-    ensures { CellCut (cut_by (frame_of plane) tol) (frame_of plane)
-        (polygons_of (space_cell (cell cell_type conn.now coords.now))) out.old result out.new }
+    requires { CanGather (cell_of cell.now) out.old × CellFits CORNERS FACES POINTS SPACE (cell_of cell.now)
+        × (CORNERS ≤ 768) × (FACES ≤ 85) × (POINTS ≤ 1152) × (SPACE ≤ 2304) }
+    ensures { CellCut (cut_by plane tol) plane (polygons_of (space_cell (cell_of cell.now))) out.old
+        result out.new }
 {
-    if cell_type != SpaceType::PHED {
-        return gather_fixed(cell_type, conn, coords, plane, tol, out);
-    }
-    if conn.len() <= 88 {
-        return gather_small(cell_type, conn, coords, plane, tol, out);
-    }
-    gather_large(cell_type, conn, coords, plane, tol, out)
+    let mut corners = [0.0; CORNERS];
+    let mut face_ends = [0; FACES];
+    let mut points = [0.0; POINTS];
+    let mut space = [0.0; SPACE];
+    let kept = cell.copy_in_space(&mut corners, &mut face_ends);
+    clip::cell_segments(
+        &corners,
+        &face_ends[..kept.faces],
+        kept.corners,
+        plane,
+        tol,
+        &mut points,
+        &mut space,
+        out,
+    )
 }
 
 // The section of an accepted cell by a plane: its segments, stitched.
 pub fn section_cell(
-    cell_type: u8,
-    conn: &[u64],
-    coords: &[f64],
+    cell: &Cell,
     plane: Plane,
     tol: f64,
     numbers: &mut [f64],
     nodes: &mut [u32],
     ends: &mut [u32],
-) -> Sectioned
-    requires { CanSection (cell cell_type conn.now coords.now) numbers.old nodes.old ends.old }
-    ensures { SectionGiven (frame_of plane) tol
-        (polygons_of (space_cell (cell cell_type conn.now coords.now))) result
+) -> Stitched
+    requires { CanSection (cell_of cell.now) numbers.old nodes.old ends.old }
+    ensures { SectionGiven plane tol (polygons_of (space_cell (cell_of cell.now))) result
         (buffers numbers.old nodes.old ends.old)
         (buffers numbers.new nodes.new ends.new) }
 {
-    if cell_type != SpaceType::PHED {
-        return section_fixed(cell_type, conn, coords, plane, tol, numbers, nodes, ends);
+    if cell.cell_type != SpaceType::PHED {
+        return section_within::<144>(cell, plane, tol, numbers, nodes, ends);
     }
-    if conn.len() <= 88 {
-        return section_small(cell_type, conn, coords, plane, tol, numbers, nodes, ends);
+    if cell.conn.len() <= 88 {
+        return section_within::<528>(cell, plane, tol, numbers, nodes, ends);
     }
-    section_large(cell_type, conn, coords, plane, tol, numbers, nodes, ends)
+    section_within::<1536>(cell, plane, tol, numbers, nodes, ends)
 }
 
-// Of any cell.
-pub fn section_large(
-    cell_type: u8,
-    conn: &[u64],
-    coords: &[f64],
+// The same with scratch for so many numbers of segments.
+#[inline(never)]
+fn section_within<const SEGMENTS: usize>(
+    cell: &Cell,
     plane: Plane,
     tol: f64,
     numbers: &mut [f64],
     nodes: &mut [u32],
     ends: &mut [u32],
-) -> Sectioned
-    requires { CanSection (cell cell_type conn.now coords.now) numbers.old nodes.old ends.old
-        × CellWithin 256 85 256 (cell cell_type conn.now coords.now) }
-    ensures { SectionGiven (frame_of plane) tol
-        (polygons_of (space_cell (cell cell_type conn.now coords.now))) result
+) -> Stitched
+    requires { CanSection (cell_of cell.now) numbers.old nodes.old ends.old × (SEGMENTS ≤ 1536)
+        × (6 * corners_of (space_cell (cell_of cell.now)) ≤ SEGMENTS) }
+    ensures { SectionGiven plane tol (polygons_of (space_cell (cell_of cell.now))) result
         (buffers numbers.old nodes.old ends.old)
         (buffers numbers.new nodes.new ends.new) }
 {
-    let mut segments = [0.0f64; 1536];
-    let found = gather_large(cell_type, conn, coords, plane, tol, &mut segments);
-    Sectioned {
-        stitched: stitch::stitch_segments(&segments, found.segments, tol, numbers, nodes, ends),
-    }
-}
-
-// Of a small polyhedron.
-fn section_small(
-    cell_type: u8,
-    conn: &[u64],
-    coords: &[f64],
-    plane: Plane,
-    tol: f64,
-    numbers: &mut [f64],
-    nodes: &mut [u32],
-    ends: &mut [u32],
-) -> Sectioned
-    requires { CanSection (cell cell_type conn.now coords.now) numbers.old nodes.old ends.old
-        × CellWithin 88 29 88 (cell cell_type conn.now coords.now) }
-    ensures { SectionGiven (frame_of plane) tol
-        (polygons_of (space_cell (cell cell_type conn.now coords.now))) result
-        (buffers numbers.old nodes.old ends.old)
-        (buffers numbers.new nodes.new ends.new) }
-{
-    let mut segments = [0.0f64; 528];
-    let found = gather_small(cell_type, conn, coords, plane, tol, &mut segments);
-    Sectioned {
-        stitched: stitch::stitch_segments(&segments, found.segments, tol, numbers, nodes, ends),
-    }
-}
-
-// Of a cell of every type but polyhedra.
-pub fn section_fixed(
-    cell_type: u8,
-    conn: &[u64],
-    coords: &[f64],
-    plane: Plane,
-    tol: f64,
-    numbers: &mut [f64],
-    nodes: &mut [u32],
-    ends: &mut [u32],
-) -> Sectioned
-    requires { CanSection (cell cell_type conn.now coords.now) numbers.old nodes.old ends.old
-        × CellWithin 24 6 4 (cell cell_type conn.now coords.now) }
-    ensures { SectionGiven (frame_of plane) tol
-        (polygons_of (space_cell (cell cell_type conn.now coords.now))) result
-        (buffers numbers.old nodes.old ends.old)
-        (buffers numbers.new nodes.new ends.new) }
-{
-    let mut segments = [0.0f64; 144];
-    let found = gather_fixed(cell_type, conn, coords, plane, tol, &mut segments);
-    Sectioned {
-        stitched: stitch::stitch_segments(&segments, found.segments, tol, numbers, nodes, ends),
-    }
-}
-
-// Of any cell.
-fn gather_large(
-    cell_type: u8,
-    conn: &[u64],
-    coords: &[f64],
-    plane: Plane,
-    tol: f64,
-    out: &mut [f64],
-) -> Found
-    requires { CanGather (cell cell_type conn.now coords.now) out.old × CellWithin 256 85 256 (cell cell_type conn.now coords.now) }
-    ensures { CellCut (cut_by (frame_of plane) tol) (frame_of plane)
-        (polygons_of (space_cell (cell cell_type conn.now coords.now))) out.old result out.new }
-{
-    let mut corners = [0.0f64; 768];
-    let mut face_ends = [0usize; 85];
-    let mut points = [0.0f64; 1152];
-    let mut space = [0.0f64; 2304];
-    let k = cell::copy_space_cell(cell_type, conn, coords, &mut corners, &mut face_ends);
-    let m = k.corners;
-    let f = k.faces;
-    clip_space::cell_segments(
-        &corners,
-        &face_ends[..f],
-        m,
-        plane,
-        tol,
-        &mut points,
-        &mut space,
-        out,
-    )
-}
-
-// Of a small polyhedron.
-fn gather_small(
-    cell_type: u8,
-    conn: &[u64],
-    coords: &[f64],
-    plane: Plane,
-    tol: f64,
-    out: &mut [f64],
-) -> Found
-    requires { CanGather (cell cell_type conn.now coords.now) out.old × CellWithin 88 29 88 (cell cell_type conn.now coords.now) }
-    ensures { CellCut (cut_by (frame_of plane) tol) (frame_of plane)
-        (polygons_of (space_cell (cell cell_type conn.now coords.now))) out.old result out.new }
-{
-    let mut corners = [0.0f64; 264];
-    let mut face_ends = [0usize; 29];
-    let mut points = [0.0f64; 396];
-    let mut space = [0.0f64; 792];
-    let k = cell::copy_space_cell(cell_type, conn, coords, &mut corners, &mut face_ends);
-    let m = k.corners;
-    let f = k.faces;
-    clip_space::cell_segments(
-        &corners,
-        &face_ends[..f],
-        m,
-        plane,
-        tol,
-        &mut points,
-        &mut space,
-        out,
-    )
-}
-
-// Of a cell of every type but polyhedra.
-fn gather_fixed(
-    cell_type: u8,
-    conn: &[u64],
-    coords: &[f64],
-    plane: Plane,
-    tol: f64,
-    out: &mut [f64],
-) -> Found
-    requires { CanGather (cell cell_type conn.now coords.now) out.old × CellWithin 24 6 4 (cell cell_type conn.now coords.now) }
-    ensures { CellCut (cut_by (frame_of plane) tol) (frame_of plane)
-        (polygons_of (space_cell (cell cell_type conn.now coords.now))) out.old result out.new }
-{
-    let mut corners = [0.0f64; 72];
-    let mut face_ends = [0usize; 6];
-    let mut points = [0.0f64; 18];
-    let mut space = [0.0f64; 36];
-    let k = cell::copy_space_cell(cell_type, conn, coords, &mut corners, &mut face_ends);
-    let m = k.corners;
-    let f = k.faces;
-    clip_space::cell_segments(
-        &corners,
-        &face_ends[..f],
-        m,
-        plane,
-        tol,
-        &mut points,
-        &mut space,
-        out,
-    )
+    let mut segments = [0.0; SEGMENTS];
+    let found = gather_cell(cell, plane, tol, &mut segments);
+    stitch::stitch_segments(&segments, found.segments, tol, numbers, nodes, ends)
 }

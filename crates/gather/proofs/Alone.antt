@@ -12,7 +12,7 @@ use lib.ListN.{length, get_or, length-append, length-map}
 use Rattle.rows.specs.Rows.{row}
 use Rattle.rows.specs.Outcome.{Outcome, refused, found, and_then, unless}
 use Rattle.rows.proofs.Outcomes.{never_both}
-use Rattle.vector.specs.Vector.{Frame}
+use Rattle.vector.specs.declared.Plane.{Plane}
 use Rattle.vector.specs.Rows.{Seg}
 use Rattle.cell.specs.Types.{shape_of, space_type}
 use Rattle.cell.specs.Faces.{Face, faces_of, from, kept, onto, separator, stretches}
@@ -144,7 +144,7 @@ rows_append c r (p ∷ ps) qs h =
     (and_i x (are_rows c r ps) (and_l x (are_rows c r (ps ++ qs)) h) rest.0, rest.1)
 
 module _ (k : Cell) (whole : length k.coords % 3 ≡ 0) (few : length k.coords ≤ separator) (g : Through) (tol : Float) (a : ℕ)
-    (f : Frame) (placed : place_in Normal g ≡ found f) where
+    (f : Plane) (placed : place_in Normal g ≡ found f) where
   one : (p : Face) → 3 ≤ length p → length p ≤ 256 → T (are_rows k.conn (length k.coords / 3) p) → 6 * length p ≤ a
       → gather_cut (face_alone k p) g tol a ≡ found (face_segments (cut_by f tol) f (map (corner 3 k.conn k.coords) p))
   unfolding flatten
@@ -191,7 +191,7 @@ face_by_face k g tol a ss few e = by_cell (space_cell k) refl (place_in Normal g
     by_room true ks e = (refl, cc)
     by_room false ks e = absurd (never_both e)
 
-    by_cell : (o : Outcome (List Polygon)) → space_cell k ≡ o → (p : Outcome Frame) → place_in Normal g ≡ p
+    by_cell : (o : Outcome (List Polygon)) → space_cell k ≡ o → (p : Outcome Plane) → place_in Normal g ≡ p
         → cut_cell o p (gather_in tol a) ≡ found ss
         → gather_each g tol a (map (face_alone k) (faces_as (numbered_in_space k.cell_type) k.conn)) ≡ found ss
     by_cell (refused j) r p q e = absurd (never_both e)

@@ -1,4 +1,5 @@
 -- What gathering can answer: few segments, which fit the buffer; and that only the corners matter. Assumes nothing.
+use Rattle.std.specs.Prelude.{Some}
 use mathlib.Core.Path.{◌≡◌, refl, sym, ap, ◌∙◌}
 use mathlib.Core.List.{List, flatten}
 use Prim.Native.Nat.{ℕ, ◌*◌, ◌≤◌}
@@ -8,7 +9,8 @@ use lib.Ieee.{Float}
 use lib.ListN.{length}
 use Rattle.rows.specs.Outcome.{Outcome, refused, found, Sound}
 use Rattle.rows.proofs.Outcomes.{sound_unless}
-use Rattle.vector.specs.Vector.{Frame, framed, plane_of}
+use Rattle.vector.specs.Vector.{plane_of}
+use Rattle.vector.specs.declared.Plane.{Plane}
 use Rattle.vector.specs.Rows.{Seg}
 use Rattle.vector.proofs.Rows.{segs_length}
 use Rattle.cell.specs.Types.{space_type}
@@ -27,7 +29,7 @@ use Rattle.gather.specs.Gather.{AlikeGathered, GatherBounded, GatherSound, Gathe
 
 -- ---- how many
 
-module _ (f : Frame) (tol : Float) (ps : List Polygon) where
+module _ (f : Plane) (tol : Float) (ps : List Polygon) where
   pub segments_bounded : length (segments_on f tol ps) ≤ at_most (length (flatten ps))
   segments_bounded = omega (arith, cell_bound (cut_by f tol) f ps, corners_in_all ps)
 
@@ -43,7 +45,7 @@ module _ (f : Frame) (tol : Float) (ps : List Polygon) where
 pub gather_sound : GatherSound
 gather_sound k g tol a =
     let P = Gathered k g tol in
-    cut_sound P (λ f. plane_of g.origin g.vector ≡ framed f) 3 (typed_in_space (space_type k.cell_type)) k.conn k.coords
+    cut_sound P (λ f. plane_of g.origin g.vector ≡ Some f) 3 (typed_in_space (space_type k.cell_type)) k.conn k.coords
     (place_in Normal g) (gather_in tol a) (place_sound Normal g)
     (λ ps r f e.
     let m : length (flatten ps) ≡ corners_of (space_cell k) = ap corners_of (sym r) in

@@ -12,7 +12,7 @@ use lib.ListN.{length, take, drop, length-append}
 use lib.Seq.{take_at, drop_at}
 use Rattle.rows.specs.Outcome.{Outcome, refused, found, and_then, unless, Sound}
 use Rattle.rows.proofs.Outcomes.{never_both, sound_unless, test_passed}
-use Rattle.vector.specs.Vector.{Frame}
+use Rattle.vector.specs.declared.Plane.{Plane}
 use Rattle.vector.specs.Rows.{Seg, seg, over, pair_up, rows, segs}
 use Rattle.cell.specs.Read.{Polygon, Cell, corners_of, space_cell}
 use Rattle.clip.specs.Clip.{Cut, plane_section_segments}
@@ -60,11 +60,11 @@ joined : {A : Type 0} (P : A → Type 0) (l m : List A) → All P l → All P m 
 joined P [] m h g = g
 joined P (x ∷ l) m h g = (h.0, joined P l m h.1 g)
 
-projected : (f : Frame) (ss : List Seg) → All (Wide 2) (map (project_seg f) ss)
+projected : (f : Plane) (ss : List Seg) → All (Wide 2) (map (project_seg f) ss)
 projected f [] = tt
 projected f (seg a b ∷ ss) = ((refl, refl), projected f ss)
 
-wide : (c : Cut) (f : Frame) (ps : List Polygon) → All (Wide 2) (cell_segments c f ps)
+wide : (c : Cut) (f : Plane) (ps : List Polygon) → All (Wide 2) (cell_segments c f ps)
 wide c f [] = tt
 wide c f (p ∷ ps) =
     joined (Wide 2) (map (project_seg f) (plane_section_segments c p)) (cell_segments c f ps) (projected f (plane_section_segments c p)) (wide c f ps)
@@ -103,7 +103,7 @@ module _ (tol : Float) (l : Lengths) where
   abbrev onward : ℕ → List Seg → Outcome Answer
   onward m ss = unless 7 (room (6 * m) (3 * m / 2) (m / 2) l) (stitch_alone (flat ss) tol l)
 
-  on_plane : (ps : List Polygon) → length (flatten ps) ≤ 256 → (f : Frame) → let m = length (flatten ps) in
+  on_plane : (ps : List Polygon) → length (flatten ps) ≤ 256 → (f : Plane) → let m = length (flatten ps) in
       section_in tol l m ps f ≡ and_then (gather_in tol l.numbers m ps f) (onward m)
   on_plane ps few f =
       let m = length (flatten ps) in
@@ -117,7 +117,7 @@ module _ (tol : Float) (l : Lengths) where
       ∙ test_passed 7 (room (4 * length ss) (length ss) (length ss / 3) l) (found (stitched tol ss))
       (has_room (4 * length ss) (length ss) (length ss / 3) l (omega (arith, s, r.0)) (omega (arith, s, r.1)) (omega (arith, s, r.2))))
 
-  by_cell : (o : Outcome (List Polygon)) → ((ps : List Polygon) → o ≡ found ps → length (flatten ps) ≤ 256) → (p : Outcome Frame)
+  by_cell : (o : Outcome (List Polygon)) → ((ps : List Polygon) → o ≡ found ps → length (flatten ps) ≤ 256) → (p : Outcome Plane)
       → cut_cell o p (section_in tol l) ≡ and_then (cut_cell o p (gather_in tol l.numbers)) (onward (corners_of o))
   by_cell (refused j) few p = refl
   by_cell (found ps) few (refused j) = refl
@@ -150,7 +150,7 @@ module _ (tol : Float) (a : ℕ) (ss : List Seg) where
   gathered_is false ks e = absurd (never_both e)
 
   -- the plane cut gives their stitching, if it gives anything
-  plane_only : (l : Lengths) (o : Outcome (List Polygon)) (p : Outcome Frame) → cut_cell o p (gather_in tol a) ≡ found ss
+  plane_only : (l : Lengths) (o : Outcome (List Polygon)) (p : Outcome Plane) → cut_cell o p (gather_in tol a) ≡ found ss
       → Sound 1 7 (λ x. x ≡ stitched tol ss) (cut_cell o p (section_in tol l))
   plane_only l (refused j) p e = absurd (never_both e)
   plane_only l (found ps) (refused j) e = absurd (never_both e)

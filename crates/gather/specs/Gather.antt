@@ -1,8 +1,9 @@
 -- Gathering: the segments of a plane cut before they are stitched, as an equation over every input; and what docs/RULES.md says of it.
 -- Definitions and statements only; the theorems are in proofs/Claims.antt, proofs/Stitching.antt and proofs/Alone.antt.
-use Rattle.std.specs.Prelude.{◌≡◌, List, [], ◌∷◌, ◌++◌, map, ℕ, ◌*◌, ◌/◌, ◌≤◌, leb, Float, length, get_or, take}
+use Rattle.std.specs.Prelude.{◌≡◌, List, [], ◌∷◌, ◌++◌, map, ℕ, ◌*◌, ◌/◌, ◌≤◌, leb, Float, length, get_or, take, Some}
 use Rattle.rows.specs.Outcome.{Outcome, found, and_then, unless, Sound}
-use Rattle.vector.specs.Vector.{Frame, framed, plane_of}
+use Rattle.vector.specs.Vector.{plane_of}
+use Rattle.vector.specs.declared.Plane.{Plane}
 use Rattle.vector.specs.Rows.{Seg}
 use Rattle.cell.specs.Faces.{Face, separator}
 use Rattle.cell.specs.Read.{Polygon, Cell, cell, corners_of, numbered_in_space, space_cell}
@@ -16,7 +17,7 @@ use Rattle.cuts.specs.declared.Way.TheVariants.{Normal}
 use Rattle.plane_cut.specs.PlaneCut.{plane_cut}
 
 -- 7: the buffer, whose length a is, holds six numbers for each face corner
-abbrev pub gather_in : Float → ℕ → ℕ → List Polygon → Frame → Outcome (List Seg)
+abbrev pub gather_in : Float → ℕ → ℕ → List Polygon → Plane → Outcome (List Seg)
 gather_in tol a m ps f = unless 7 (leb (6 * m) a) (found (segments_on f tol ps))
 
 abbrev pub gather_cut : Cell → Through → Float → ℕ → Outcome (List Seg)
@@ -29,8 +30,8 @@ gather_cut k g tol a = cut_cell (space_cell k) (place_in Normal g) (gather_in to
 pub record Gathered (k : Cell) (g : Through) (tol : Float) (ss : List Seg) : Type 0 where
   pub polygons : List Polygon
   pub read_is : space_cell k ≡ found polygons
-  pub frame : Frame
-  pub frame_is : plane_of g.origin g.vector ≡ framed frame
+  pub frame : Plane
+  pub frame_is : plane_of g.origin g.vector ≡ Some frame
   pub segments_are : ss ≡ segments_on frame tol polygons
   pub bounded : length ss ≤ at_most (corners_of (space_cell k))
   pub few : length ss ≤ 384

@@ -4,10 +4,12 @@ use mathlib.Core.List.{List, [], ◌∷◌, ◌++◌, append_assoc, append-nil, 
 use Prim.Native.Nat.{ℕ, ◌+◌, ◌-◌, ◌*◌, ◌≤◌, ◌<◌}
 use native.Mathlib.Numerals.{add-one}
 use native.Mathlib.Omega.{arith}
-use lib.Ieee.{Float}
+use lib.Ieee.{Float, add, mul, binary64}
 use lib.ListN.{length, get_or, take, drop, length-append, length-drop, length-map, drop_of_length-le}
 use lib.Seq.{drop-cons, drop-drop, get_or-drop, get_or-take, length-take-le}
-use Rattle.vector.specs.Vector.{Vector, Frame}
+use Rattle.vector.specs.Vector.{Vector, at, scale}
+use Rattle.vector.proofs.Coordinates.{length_each}
+use Rattle.vector.specs.declared.Plane.{Plane}
 use Rattle.vector.specs.Rows.{rows, segs}
 use Rattle.vector.proofs.Rows.{drop_later, segs_length}
 use Rattle.clip.specs.Cell.{at_most}
@@ -16,8 +18,14 @@ use Rattle.clip.specs.Code.{Points, Segments}
 use Rattle.clip.proofs.Bound.{section_bound}
 use Rattle.walk.specs.Walk.{point_at}
 use Rattle.stitch.specs.Code.{cut}
-use Rattle.line_cut.specs.LineCut.{axis, loop_segments, loops_segments, segment_on_line}
+use Rattle.line_cut.specs.LineCut.{axis, loop_segments, loops_segments, on_line, segment_on_line}
 use Rattle.line_cut.specs.Code.{CanCutLoop, CanCutLoops, Rising, on_line_of}
+
+-- a point of the line has three coordinates
+pub on_line_length : (f : Plane) (a : Vector) → length f.origin ≡ 3 → length f.u ≡ 3 → length (on_line f a) ≡ 3
+on_line_length f a lo lu =
+    let s = scale (at a 0) f.u in
+    length_each (add binary64) f.origin s (lo ∙ sym (length-map f.u (mul binary64 (at a 0)) ∙ lu)) ∙ lo
 
 rising_most : (s : ℕ) (es : List ℕ) (m : ℕ) → Rising s es m → s ≤ m
 rising_most s [] m h = h
@@ -42,7 +50,7 @@ module _ (tol : Float) (ps : List Vector) (nodes : List ℕ) where
   loop_few {flat' = flat'} {k = k} h = omega (arith, sym (segs_length 2 k flat') ∙ ap length h.are, loop_bound tol ps nodes)
 
 -- i of the loops are passed, s nodes and k segments
-pub record LoopsCut (f : Frame) (tol : Float) (ps : List Vector) (nodes ends : List ℕ) (xs : List Float) (i s k : ℕ) (zs : List Float) :
+pub record LoopsCut (f : Plane) (tol : Float) (ps : List Vector) (nodes ends : List ℕ) (xs : List Float) (i s k : ℕ) (zs : List Float) :
     Type 0
   where
     pub total : on_line_of f tol ps ends nodes
@@ -52,11 +60,11 @@ pub record LoopsCut (f : Frame) (tol : Float) (ps : List Vector) (nodes ends : L
     pub few : k ≤ at_most s
     pub rising : Rising s (drop i ends) (length nodes)
 
-pub loops_start : (f : Frame) (tol : Float) (ps : List Vector) (nodes ends : List ℕ) (xs : List Float) → Rising 0 ends (length nodes)
+pub loops_start : (f : Plane) (tol : Float) (ps : List Vector) (nodes ends : List ℕ) (xs : List Float) → Rising 0 ends (length nodes)
     → LoopsCut f tol ps nodes ends xs 0 0 0 xs
 loops_start f tol ps nodes ends xs h = record { total = refl; rest = refl; same_length = refl; few = omega arith; rising = h }
 
-module _ {f : Frame} {tol : Float} {ps : List Vector} {nodes ends : List ℕ} {xs : List Float} {i s k : ℕ} {zs : List Float}
+module _ {f : Plane} {tol : Float} {ps : List Vector} {nodes ends : List ℕ} {xs : List Float} {i s k : ℕ} {zs : List Float}
     (v : LoopsCut f tol ps nodes ends xs i s k zs) where
   module _ (h : i < length ends) where
     next : drop i ends ≡ get_or ends i 0 ∷ drop (i + 1) ends

@@ -8,7 +8,8 @@ use native.Mathlib.Nat.{zero-add}
 use lib.Ieee.{Float}
 use lib.ListN.{length, take, drop, length-append, length-map}
 use lib.Seq.{take_at}
-use Rattle.vector.specs.Vector.{Vector, Frame}
+use Rattle.vector.specs.Vector.{Vector}
+use Rattle.vector.specs.declared.Plane.{Plane}
 use Rattle.vector.specs.Rows.{Seg, ends_from, rows}
 use Rattle.vector.proofs.Rows.{segs_length}
 use Rattle.cell.specs.Read.{Polygon}
@@ -90,7 +91,7 @@ module _ {a : Answer} {r : Stitched} {numbers numbers' : List Float} {nodes node
       omega (arith, g.loop_count, length_ends 0 a.loops)
 
   -- so their cut by y = 0 is that of the section
-  pub line_of : (f : Frame) (tol : Float)
+  pub line_of : (f : Plane) (tol : Float)
       → on_line_of f tol (rows 2 r.points numbers') (take r.loops ends') (take r.nodes nodes') ≡ line_of_section f tol a
   line_of f tol =
       ap (λ ps. on_line_of f tol ps (take r.loops ends') (take r.nodes nodes')) g.points_are
@@ -125,7 +126,7 @@ line_bound f tol ps =
     )
 
 -- so they fit the buffer
-pub line_fits : (f : Frame) (tol : Float) (ps : List Polygon) {numbers out : List Float} {r : ℕ} → 14 * length (flatten ps) ≤ length numbers
+pub line_fits : (f : Plane) (tol : Float) (ps : List Polygon) {numbers out : List Float} {r : ℕ} → 14 * length (flatten ps) ≤ length numbers
     → Segments 3 numbers (line_of_section f tol (section_of f tol ps)) r out → 3 * (2 * r) ≤ length numbers
 line_fits f tol ps {out = out} {r = r} room g =
     let e : r ≡ length (line_of_section f tol (section_of f tol ps)) = sym (segs_length 3 r out) ∙ ap length g.are in
@@ -141,7 +142,7 @@ pub record Scratch (m : ℕ) (points polygon clipped flat : List Float) : Type 0
   pub for_clipped : 2 * at_most (at_most m) ≤ length clipped
   pub for_flat : 4 * at_most (at_most m) ≤ length flat
 
-pub loops_ready : (f : Frame) (tol : Float) (m : ℕ) (ps : List Polygon) {points : List Float} {nodes ends : List ℕ} {r : Stitched}
+pub loops_ready : (f : Plane) (tol : Float) (m : ℕ) (ps : List Polygon) {points : List Float} {nodes ends : List ℕ} {r : Stitched}
     {points' polygon clipped flat numbers : List Float} {nodes' ends' : List ℕ}
     → length (flatten ps) ≤ m → Scratch m points' polygon clipped flat → 14 * length (flatten ps) ≤ length numbers
     → AnswerGiven (section_of f tol ps) r points points' nodes nodes' ends ends'

@@ -1,6 +1,7 @@
 -- What the clauses of the code cite. Definitions only.
-use Rattle.std.specs.Prelude.{List, [], ◌∷◌, map, ℕ, ◌*◌, ◌≤◌, length, Float}
-use Rattle.vector.specs.Vector.{Vector, Frame}
+use Rattle.std.specs.Prelude.{List, [], ◌∷◌, map, ℕ, ◌*◌, ◌/◌, ◌≤◌, length, Float}
+use Rattle.vector.specs.Vector.{Vector}
+use Rattle.vector.specs.declared.Plane.{Plane}
 use Rattle.vector.specs.Rows.{Seg}
 use Rattle.cell.specs.Read.{Polygon, Cell, space_cell, corners_of, Accepted}
 use Rattle.clip.specs.Cell.{at_most}
@@ -16,8 +17,18 @@ pub record CanLine (k : Cell) (numbers : List Float) : Type 0 where
   pub accepted : Accepted (space_cell k)
   pub room : 14 * corners_of (space_cell k) ≤ length numbers
 
+-- scratch holds the section of a cell of m face corners, in a numbers, b nodes and c ends, and the polygon of a loop of it, its clipped
+-- points and its segments, in p, q and r numbers
+pub record LineFits (a b c p q r m : ℕ) : Type 0 where
+  pub for_numbers : 6 * m ≤ a
+  pub for_nodes : 3 * m / 2 ≤ b
+  pub for_ends : m / 2 ≤ c
+  pub for_polygon : 3 * m ≤ p
+  pub for_clipped : 2 * at_most (at_most m) ≤ q
+  pub for_flat : 4 * at_most (at_most m) ≤ r
+
 -- the segments on the line of a cell's section are given, after which the buffer is as it was
-pub record LineGiven (f : Frame) (tol : Float) (ps : List Polygon) (xs : List Float) (r : Found) (zs : List Float) : Type 0 where
+pub record LineGiven (f : Plane) (tol : Float) (ps : List Polygon) (xs : List Float) (r : Found) (zs : List Float) : Type 0 where
   pub segments : Segments 3 xs (line_of_section f tol (section_of f tol ps)) r.segments zs
 
 -- the segments ss of loops stand in the buffer
@@ -25,7 +36,7 @@ pub record LoopCut (xs : List Float) (ss : List Seg) (r : Found) (zs : List Floa
   pub segments : Segments 3 xs ss r.segments zs
 
 -- the segments on the line of loops whose nodes stand in a row and end at `ends`
-abbrev pub on_line_of : Frame → Float → List Vector → List ℕ → List ℕ → List Seg
+abbrev pub on_line_of : Plane → Float → List Vector → List ℕ → List ℕ → List Seg
 on_line_of f tol ps ends nodes = map (segment_on_line f) (loops_segments tol ps (cut 0 ends nodes))
 
 -- nodes among p points, with room for a polygon of them, its clipped points and its segments

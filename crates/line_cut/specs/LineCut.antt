@@ -3,7 +3,8 @@
 use Rattle.std.specs.Prelude.{◌≡◌, List, [], ◌∷◌, ◌++◌, map, ℕ, ◌*◌, ◌≤◌, leb, length, Float}
 use Rattle.rows.specs.Outcome.{Outcome, found, unless, Sound}
 use Rattle.vector.specs.Number.{f0, f1}
-use Rattle.vector.specs.Vector.{Vector, Frame, at, plus, scale}
+use Rattle.vector.specs.Vector.{Vector, at, plus, scale}
+use Rattle.vector.specs.declared.Plane.{Plane}
 use Rattle.vector.specs.Rows.{Seg, seg}
 use Rattle.cell.specs.Read.{Polygon, Cell, space_cell}
 use Rattle.cell.specs.Claims.{SameInSpace}
@@ -28,18 +29,18 @@ loops_segments tol ps [] = []
 loops_segments tol ps (l ∷ ls) = loop_segments tol ps l ++ loops_segments tol ps ls
 
 -- origin + a[0] times direction, which is the plane's u
-abbrev pub on_line : Frame → Vector → Vector
+abbrev pub on_line : Plane → Vector → Vector
 on_line f a = plus f.origin (scale (at a 0) f.u)
 
-abbrev pub segment_on_line : Frame → Seg → Seg
+abbrev pub segment_on_line : Plane → Seg → Seg
 segment_on_line f (seg a b) = seg (on_line f a) (on_line f b)
 
 -- each loop of the section cut by y = 0 and mapped to the line
-abbrev pub line_of_section : Frame → Float → Answer → List Seg
+abbrev pub line_of_section : Plane → Float → Answer → List Seg
 line_of_section f tol s = map (segment_on_line f) (loops_segments tol s.points s.loops)
 
 -- 7: the buffer, whose length a is, holds 14 numbers for each face corner
-abbrev pub line_in : Float → ℕ → ℕ → List Polygon → Frame → Outcome (List Seg)
+abbrev pub line_in : Float → ℕ → ℕ → List Polygon → Plane → Outcome (List Seg)
 line_in tol a m ps f = unless 7 (leb (14 * m) a) (found (line_of_section f tol (section_of f tol ps)))
 
 abbrev pub line_cut : Cell → Through → Float → ℕ → Outcome (List Seg)
@@ -50,7 +51,7 @@ line_cut k g tol a = cut_cell (space_cell k) (place_in Direction g) (line_in tol
 -- A cell in space with m face corners gives at most 9m / 4 segments on a line: its section has at most floor(3m / 2) nodes, and a loop of
 -- n nodes gives at most floor(3n / 2) segments. So 14m numbers hold them, six a segment.
 abbrev pub LineBounded : Type 0
-LineBounded = (f : Frame) (tol : Float) (ps : List Polygon) → 4 * length (line_of_section f tol (section_of f tol ps)) ≤ 9 * corners ps
+LineBounded = (f : Plane) (tol : Float) (ps : List Polygon) → 4 * length (line_of_section f tol (section_of f tol ps)) ≤ 9 * corners ps
 
 -- Whatever is handed over, the line cut of a cell in space answers with a refusal from 1 to 7 or with at most 576 segments.
 abbrev pub LineSound : Type 0

@@ -2,166 +2,89 @@
 #![tactic(auto)]
 
 ghost use Rattle.std.specs.Prelude.{◌≡◌, ◌++◌, map, ◌*◌, ◌+◌, ◌≤◌, length};
-ghost use Rattle.vector.specs.View.{frame_of, vec2, vec3};
 ghost use Rattle.vector.specs.Rows.{rows, segs};
-ghost use Rattle.cell.specs.Read.{cell, polygons_of, space_cell};
+ghost use Rattle.cell.specs.Read.{cell_of, corners_of, polygons_of, space_cell};
 ghost use Rattle.clip.specs.Cell.{at_most};
 ghost use Rattle.clip.specs.Code.{Points, Segments};
-ghost use Rattle.clip_plane.specs.View.{cut2};
+ghost use Rattle.clip.specs.View.{cut_of};
 ghost use Rattle.walk.specs.Code.{Below};
 ghost use Rattle.walk.specs.Walk.{point_at};
-ghost use Rattle.cuts.specs.Cuts.{through};
+ghost use Rattle.cuts.specs.Code.{through_of};
 ghost use Rattle.cuts.specs.Lines.{GaveLine, line_told};
-ghost use Rattle.cuts.specs.Code.{CellWithin};
 ghost use Rattle.line_cut.specs.LineCut.{axis, line_cut, loop_segments, on_line, segment_on_line};
-ghost use Rattle.line_cut.specs.Code.{CanCutLoop, CanCutLoops, CanLine, LineGiven, LoopCut, on_line_of};
+ghost use Rattle.line_cut.specs.Code.{CanCutLoop, CanCutLoops, CanLine, LineFits, LineGiven, LoopCut, on_line_of};
 
-use cell::Reading;
+use cell::Cell;
 use cell::types::SpaceType;
 use clip::Found;
-use clip_plane::polygon::Cut;
-use cuts::{Line, Placing, Way};
-use vector::{Plane, Vec2, Vec3};
-use walk::wide;
+use clip::polygon::{Cut, plane_section_segments};
+use cuts::{Through, Way};
+use rows::Refusal;
+use vector::{Plane, coord, plus, put, scaled};
 
 // Cuts a single cell in space with the line through origin that has this direction: the segments, six numbers each.
 //
 // The cell is cut by a plane that contains the line, whose in-plane basis makes the line y = 0, and the loops of
 // that section are cut by it.
 pub fn slice_line_3d(
-    cell_type: u8,
-    conn: &[u64],
-    coords: &[f64],
-    origin: &[f64],
-    direction: &[f64],
+    cell: &Cell,
+    through: &Through,
     tol: f64,
     numbers: &mut [f64],
-) -> Line
+) -> Result<Found, Refusal>
     ensures { GaveLine
-        (line_cut (cell cell_type conn.now coords.now)
-        (through origin.now direction.now) tol (length numbers.old))
+        (line_cut (cell_of cell.now) (through_of through.now) tol (length numbers.old))
         (line_told result) numbers.old numbers.new }
 {
-    match cell::test_space_cell(cell_type, conn, coords) {
-        Reading::Refused(k) => Line::Refused(k),
-        Reading::Cell(corners) => match cuts::place(Way::Direction, origin, direction) {
-            Placing::Refused(k) => Line::Refused(k),
-            Placing::On(plane) => {
-                if 14 * corners > numbers.len() {
-                    return Line::Refused(7);
-                }
-                Line::Cut(line_cell(cell_type, conn, coords, plane, tol, numbers))
-            }
-        },
+    let corners = cell.test_in_space()?;
+    let plane = through.place(Way::Direction)?;
+    if 14 * corners > numbers.len() {
+        return Err(Refusal::ShortBuffer);
     }
+    Ok(line_cell(cell, plane, tol, numbers))
 }
 
 // The cut of an accepted cell by the line y = 0 of a plane.
-fn line_cell(
-    cell_type: u8,
-    conn: &[u64],
-    coords: &[f64],
-    plane: Plane,
-    tol: f64,
-    numbers: &mut [f64],
-) -> Found
-    requires { CanLine (cell cell_type conn.now coords.now) numbers.old }
-    ensures { LineGiven (frame_of plane) tol
-        (polygons_of (space_cell (cell cell_type conn.now coords.now))) numbers.old result
+fn line_cell(cell: &Cell, plane: Plane, tol: f64, numbers: &mut [f64]) -> Found
+    requires { CanLine (cell_of cell.now) numbers.old }
+    ensures { LineGiven plane tol (polygons_of (space_cell (cell_of cell.now))) numbers.old result
         numbers.new }
 {
-    if cell_type != SpaceType::PHED {
-        return line_fixed(cell_type, conn, coords, plane, tol, numbers);
+    if cell.cell_type != SpaceType::PHED {
+        return line_within::<144, 36, 12, 72, 108, 216>(cell, plane, tol, numbers);
     }
-    line_large(cell_type, conn, coords, plane, tol, numbers)
+    line_within::<1536, 384, 128, 768, 1152, 2304>(cell, plane, tol, numbers)
 }
 
-// The section of any cell by the plane, and each of its loops cut by y = 0.
-fn line_large(
-    cell_type: u8,
-    conn: &[u64],
-    coords: &[f64],
-    plane: Plane,
-    tol: f64,
-    numbers: &mut [f64],
-) -> Found
-    requires { CanLine (cell cell_type conn.now coords.now) numbers.old
-        × CellWithin 256 85 256 (cell cell_type conn.now coords.now) }
-    ensures { LineGiven (frame_of plane) tol
-        (polygons_of (space_cell (cell cell_type conn.now coords.now))) numbers.old result
+// The section of a cell by the plane, and each of its loops cut by y = 0, with scratch for a section of so many numbers, nodes and ends,
+// and for so many numbers of a loop's polygon, of its clipped points and of its segments.
+#[inline(never)]
+fn line_within<
+    const NUMBERS: usize,
+    const NODES: usize,
+    const ENDS: usize,
+    const POLYGON: usize,
+    const CLIPPED: usize,
+    const FLAT: usize,
+>(cell: &Cell, plane: Plane, tol: f64, numbers: &mut [f64]) -> Found
+    requires { CanLine (cell_of cell.now) numbers.old
+        × LineFits NUMBERS NODES ENDS POLYGON CLIPPED FLAT (corners_of (space_cell (cell_of cell.now)))
+        × (NUMBERS ≤ 1536) × (NODES ≤ 384) × (ENDS ≤ 128) × (POLYGON ≤ 768) × (CLIPPED ≤ 1152) × (FLAT ≤ 2304) }
+    ensures { LineGiven plane tol (polygons_of (space_cell (cell_of cell.now))) numbers.old result
         numbers.new }
 {
-    let mut points = [0.0f64; 1536];
-    let mut nodes = [0u32; 384];
-    let mut ends = [0u32; 128];
-    let mut polygon = [0.0f64; 768];
-    let mut clipped = [0.0f64; 1152];
-    let mut flat = [0.0f64; 2304];
-    let section = cuts::section_large(
-        cell_type,
-        conn,
-        coords,
-        plane,
-        tol,
-        &mut points,
-        &mut nodes,
-        &mut ends,
-    );
-    let s = section.stitched;
-    let n = s.nodes;
-    let f = s.loops;
+    let mut points = [0.0; NUMBERS];
+    let mut nodes = [0; NODES];
+    let mut ends = [0; ENDS];
+    let mut polygon = [0.0; POLYGON];
+    let mut clipped = [0.0; CLIPPED];
+    let mut flat = [0.0; FLAT];
+    let section = cuts::section_cell(cell, plane, tol, &mut points, &mut nodes, &mut ends);
     cut_loops(
         &points,
-        s.points,
-        &nodes[..n],
-        &ends[..f],
-        plane,
-        tol,
-        &mut polygon,
-        &mut clipped,
-        &mut flat,
-        numbers,
-    )
-}
-
-// The same of a cell of every type but polyhedra.
-fn line_fixed(
-    cell_type: u8,
-    conn: &[u64],
-    coords: &[f64],
-    plane: Plane,
-    tol: f64,
-    numbers: &mut [f64],
-) -> Found
-    requires { CanLine (cell cell_type conn.now coords.now) numbers.old × CellWithin 24 6 4 (cell cell_type conn.now coords.now) }
-    ensures { LineGiven (frame_of plane) tol
-        (polygons_of (space_cell (cell cell_type conn.now coords.now))) numbers.old result
-        numbers.new }
-{
-    let mut points = [0.0f64; 144];
-    let mut nodes = [0u32; 36];
-    let mut ends = [0u32; 12];
-    let mut polygon = [0.0f64; 72];
-    let mut clipped = [0.0f64; 108];
-    let mut flat = [0.0f64; 216];
-    let section = cuts::section_fixed(
-        cell_type,
-        conn,
-        coords,
-        plane,
-        tol,
-        &mut points,
-        &mut nodes,
-        &mut ends,
-    );
-    let s = section.stitched;
-    let n = s.nodes;
-    let f = s.loops;
-    cut_loops(
-        &points,
-        s.points,
-        &nodes[..n],
-        &ends[..f],
+        section.points,
+        &nodes[..section.nodes],
+        &ends[..section.loops],
         plane,
         tol,
         &mut polygon,
@@ -186,14 +109,13 @@ fn cut_loops(
 ) -> Found
     requires { CanCutLoops p points.now nodes.now ends.now polygon.old clipped.old flat.old numbers.old }
     ensures { LoopCut numbers.old
-        (on_line_of (frame_of plane) tol (rows 2 p points.now) ends.now nodes.now)
+        (on_line_of plane tol (rows 2 p points.now) ends.now nodes.now)
         result numbers.new }
 {
     let mut k = 0;
     let mut s = 0;
-    let mut i = 0;
-    while i < ends.len() {
-        let e = wide(ends[i]);
+    for &end in ends {
+        let e = end as usize;
         let found = cut_loop(
             points,
             p,
@@ -208,7 +130,6 @@ fn cut_loops(
         );
         k = found.segments;
         s = e;
-        i += 1;
     }
     Found { segments: k }
 }
@@ -230,31 +151,26 @@ fn cut_loop(
         × (6 * (from + at_most (length nodes.now)) ≤ length numbers.old) }
     ensures { LoopCut numbers.old
         (segs 3 from numbers.old
-        ++ map (segment_on_line (frame_of plane))
+        ++ map (segment_on_line plane)
         (loop_segments tol (rows 2 p points.now) nodes.now))
         result numbers.new }
 {
     loop_points(points, p, nodes, polygon);
-    let found = clip_plane::polygon::plane_section_segments(
-        polygon,
-        nodes.len(),
-        axis(tol),
-        clipped,
-        flat,
-    );
+    let cut = axis(tol);
+    let found = plane_section_segments(polygon, nodes.len(), &cut, clipped, flat);
     Found {
         segments: put_on_line(flat, found.segments, plane, numbers, from),
     }
 }
 
 // The line y = 0 with a tolerance.
-fn axis(tol: f64) -> Cut
-    ensures { cut2 result ≡ axis tol }
+fn axis(tol: f64) -> Cut<2>
+    ensures { cut_of result ≡ axis tol }
 {
     Cut {
-        origin: Vec2 { x: 0.0, y: 0.0 },
-        normal: Vec2 { x: 0.0, y: 1.0 },
-        tol: tol,
+        origin: [0.0, 0.0],
+        normal: [0.0, 1.0],
+        tol,
     }
 }
 
@@ -264,11 +180,8 @@ fn loop_points(points: &[f64], p: usize, nodes: &[u32], out: &mut [f64])
     ensures { Points 2 out.old (map (point_at (rows 2 p points.now)) nodes.now)
         (length nodes.now) out.new }
 {
-    let mut i = 0;
-    while i < nodes.len() {
-        let k = wide(nodes[i]);
-        vector::put2(out, i, vector::coord2(points, k));
-        i += 1;
+    for (i, &node) in nodes.iter().enumerate() {
+        put::<2>(out, i, coord(points, node as usize));
     }
 }
 
@@ -276,24 +189,20 @@ fn loop_points(points: &[f64], p: usize, nodes: &[u32], out: &mut [f64])
 fn put_on_line(flat: &[f64], k: usize, plane: Plane, out: &mut [f64], from: usize) -> usize
     requires { (4 * k ≤ length flat.now) × (6 * (from + k) ≤ length out.old) }
     ensures { Segments 3 out.old
-        (segs 3 from out.old ++ map (segment_on_line (frame_of plane)) (segs 2 k flat.now))
+        (segs 3 from out.old ++ map (segment_on_line plane) (segs 2 k flat.now))
         result out.new }
 {
-    let mut i = 0;
-    while i < k {
+    for i in 0..k {
         let j = 2 * (from + i);
-        vector::put3(out, j, on_line(vector::coord2(flat, 2 * i), plane));
-        vector::put3(out, j + 1, on_line(vector::coord2(flat, 2 * i + 1), plane));
-        i += 1;
+        put(out, j, on_line(coord(flat, 2 * i), plane));
+        put(out, j + 1, on_line(coord(flat, 2 * i + 1), plane));
     }
     from + k
 }
 
-// The point of the line with the coordinate a.x along it.
-fn on_line(a: Vec2, plane: Plane) -> Vec3
-    ensures { vec3 result ≡ on_line (frame_of plane) (vec2 a) }
+// The point of the line with the coordinate a[0] along it.
+fn on_line(a: [f64; 2], plane: Plane) -> [f64; 3]
+    ensures { result ≡ on_line plane a }
 {
-    let o = plane.origin;
-    let u = plane.u;
-    o.plus(u.scaled(a.x))
+    plus(plane.origin, scaled(plane.u, a[0]))
 }

@@ -1,19 +1,20 @@
 -- What the clauses of the code cite. Definitions only.
-use Rattle.std.specs.Prelude.{◌≡◌, List, ℕ, ◌*◌, ◌≤◌, length, Float}
+use Rattle.std.specs.Prelude.{◌≡◌, List, ℕ, ◌*◌, ◌≤◌, length, Float, Result, Ok, Err}
 use Rattle.rows.specs.Outcome.{Outcome, refused, found}
+use Rattle.rows.specs.Refusals.{number}
+use Rattle.rows.specs.declared.Refusal.{Refusal}
 use Rattle.cell.specs.Read.{Polygon, Cell, plane_cell, corners_of, Accepted}
 use Rattle.clip.specs.Clip.{Cut}
 use Rattle.clip.specs.Code.{Segments}
-use Rattle.clip_plane.specs.View.{cut2}
+use Rattle.clip.specs.View.{cut_of}
+use Rattle.clip.specs.declared.polygon.Cut as code
 use Rattle.clip.specs.declared.Found.{Found}
 use Rattle.plane_cell.specs.PlaneCell.{polygon_segments}
-use Rattle.plane_cell.specs.declared.Cutting as C
-use Rattle.plane_cell.specs.declared.Cutting.TheVariants as c
 
 -- the line that a placing found
-abbrev pub cutting : C.Cutting → Outcome Cut
-cutting (c.Refused k) = refused k
-cutting (c.By x) = found (cut2 x)
+abbrev pub cutting : Result (code.Cut 2) Refusal → Outcome Cut
+cutting (Err refusal) = refused (number refusal)
+cutting (Ok x) = found (cut_of x)
 
 -- what the work on an accepted cell needs: the number of its corners, and room for its segments
 pub record CanCut (k : Cell) (n : ℕ) (numbers : List Float) : Type 0 where

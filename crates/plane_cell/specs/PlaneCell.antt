@@ -1,8 +1,8 @@
 -- The line cut of a cell in the plane, as an equation over every input: one cell of `slice_2d`, by normal, or by direction as `slice_line`
 -- does; and what docs/RULES.md says of it. Definitions and statements only; the theorems are in proofs/Claims.antt.
-use Rattle.std.specs.Prelude.{◌≡◌, List, [], ◌∷◌, ℕ, ◌*◌, ◌≤◌, leb, length, Float}
+use Rattle.std.specs.Prelude.{◌≡◌, List, [], ◌∷◌, ℕ, ◌*◌, ◌≤◌, leb, length, Float, Option, Some, None}
 use Rattle.rows.specs.Outcome.{Outcome, refused, found, and_then, unless, Sound}
-use Rattle.vector.specs.Vector.{Vector, Direction, along, nowhere, unit, normal_along}
+use Rattle.vector.specs.Vector.{Vector, unit, normal_along}
 use Rattle.vector.specs.Rows.{Seg}
 use Rattle.cell.specs.Read.{Polygon, Cell, plane_cell}
 use Rattle.cell.specs.Claims.{SameInPlane}
@@ -12,17 +12,17 @@ use Rattle.cuts.specs.declared.Way as W
 use Rattle.cuts.specs.declared.Way.TheVariants as w
 
 -- the unit normal of the line that a vector gives
-abbrev pub normal_by : W.Way → Vector → Direction
+abbrev pub normal_by : W.Way → Vector → Option Vector
 normal_by w.Normal = unit
 normal_by w.Direction = normal_along
 
 -- 6: a unit was taken of a vector whose norm is not greater than 0
-abbrev pub normal_in : Direction → Outcome Vector
-normal_in nowhere = refused 6
-normal_in (along n) = found n
+abbrev pub normal_in : Option Vector → Outcome Vector
+normal_in None = refused 6
+normal_in (Some n) = found n
 
 -- the line through o with the unit normal that was found
-abbrev pub line_with : Vector → Float → Direction → Outcome Cut
+abbrev pub line_with : Vector → Float → Option Vector → Outcome Cut
 line_with o tol x = and_then (normal_in x) (λ u. found (record { origin = o; normal = u; tol = tol }))
 
 -- 5 and 6 in the plane

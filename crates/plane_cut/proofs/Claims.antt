@@ -1,4 +1,5 @@
 -- The theorems about the plane cut. Assumes nothing.
+use Rattle.std.specs.Prelude.{Some}
 use mathlib.Core.Path.{◌≡◌, ap, subst}
 use mathlib.Core.Bool.{true}
 use mathlib.Core.List.{List, flatten}
@@ -8,14 +9,15 @@ use lib.Ieee.{Float}
 use lib.ListN.{length}
 use Rattle.rows.specs.Outcome.{found}
 use Rattle.rows.proofs.Outcomes.{sound_unless}
-use Rattle.vector.specs.Vector.{Frame, framed, plane_of}
+use Rattle.vector.specs.Vector.{plane_of}
+use Rattle.vector.specs.declared.Plane.{Plane}
 use Rattle.cell.specs.Types.{shape_of, space_type}
 use Rattle.cell.specs.Read.{Polygon, Cell, space_cell, typed_in_space, Tested}
 use Rattle.cell.specs.Claims.{CornersKept}
 use Rattle.cell.specs.declared.types.Shape.{Shape}
 use Rattle.cell.specs.declared.types.Shape.TheVariants.{Tet, Wedge, Hex, Phed}
-use Rattle.cell.specs.declared.Reading.{Reading}
-use Rattle.cell.specs.declared.Reading.TheVariants as R
+use Rattle.rows.specs.declared.Refusal.{Refusal}
+use Rattle.std.specs.Prelude.{Result, Ok}
 use Rattle.cell.proofs.Alike.{alike_in_space}
 use Rattle.cell.proofs.Bounds.{space_bounded}
 use Rattle.clip.specs.Cell.{at_most, corners, cut_by}
@@ -34,7 +36,7 @@ use Rattle.plane_cut.specs.PlaneCut.{AlikeByPlane, PlaneClaim, PlaneSection, Pla
 use Rattle.plane_cut.specs.PlaneCut.{most_segments, plane_cut, section_in}
 
 -- what the work on a cell that was tested needs is there
-pub can_section : (k : Cell) {r : Reading} (h : Tested (space_cell k) r) {m : ℕ} (e : r ≡ R.Cell m) (numbers : List Float) (nodes ends :
+pub can_section : (k : Cell) {r : Result ℕ Refusal} (h : Tested (space_cell k) r) {m : ℕ} (e : r ≡ Ok m) (numbers : List Float) (nodes ends :
     List ℕ)
     → room (6 * m) (3 * m / 2) (m / 2) (lengths (buffers numbers nodes ends)) ≡ true → CanSection k numbers nodes ends
 can_section k h {m} e numbers nodes ends w =
@@ -57,7 +59,7 @@ segments_bounded k t ps e r f tol =
     let w : at_most m ≤ most_segments (shape_of t) = within (shape_of t) m (space_bounded k t ps e r).corners in
     omega (arith, b, w, corners_in_all ps)
 
-few_of_cell : (k : Cell) (ps : List Polygon) → space_cell k ≡ found ps → (f : Frame) (tol : Float) → length (segments_on f tol ps) ≤ 384
+few_of_cell : (k : Cell) (ps : List Polygon) → space_cell k ≡ found ps → (f : Plane) (tol : Float) → length (segments_on f tol ps) ≤ 384
 few_of_cell k ps r f tol = omega (arith, cell_bound (cut_by f tol) f ps, corners_in_all ps, found_few k ps r)
 
 -- ---- only the corners matter
@@ -71,7 +73,7 @@ alike_by_plane k k' ps ps' r r' z g tol l =
 pub plane_sound : PlaneSound
 plane_sound k g tol l =
     let P = PlaneSection k g tol in
-    cut_sound P (λ f. plane_of g.origin g.vector ≡ framed f) 3 (typed_in_space (space_type k.cell_type)) k.conn k.coords
+    cut_sound P (λ f. plane_of g.origin g.vector ≡ Some f) 3 (typed_in_space (space_type k.cell_type)) k.conn k.coords
     (place_in Normal g) (section_in tol l) (place_sound Normal g)
     (λ ps r f e.
     let m = length (flatten ps) in

@@ -1,15 +1,16 @@
 -- The plane cut of a cell in space, as an equation over every input: `section_cell_by_plane` after `slice_3d`'s vectors; and what docs/RULES.md
 -- says of it. Definitions and statements only; the theorems are in proofs/Claims.antt.
-use Rattle.std.specs.Prelude.{◌≡◌, List, ℕ, ◌*◌, ◌/◌, ◌≤◌, Float, length}
+use Rattle.std.specs.Prelude.{◌≡◌, List, ℕ, ◌*◌, ◌/◌, ◌≤◌, Float, length, Some}
 use Rattle.rows.specs.Outcome.{Outcome, found, unless, Sound}
-use Rattle.vector.specs.Vector.{Frame, framed, plane_of}
+use Rattle.vector.specs.Vector.{plane_of}
+use Rattle.vector.specs.declared.Plane.{Plane}
 use Rattle.cell.specs.Types.{shape_of, space_type}
 use Rattle.cell.specs.Read.{Polygon, Cell, space_cell}
 use Rattle.cell.specs.Claims.{SameInSpace}
 use Rattle.cell.specs.declared.types.Shape.{Shape}
 use Rattle.cell.specs.declared.types.Shape.TheVariants.{Tet, Wedge, Hex, Phed}
 use Rattle.cell.specs.declared.types.SpaceType.{SpaceType}
-use Rattle.cell.specs.declared.types.InSpace.TheVariants.{Known}
+use Rattle.std.specs.Prelude.{Some}
 use Rattle.stitch.specs.Stitch.{Answer, rule_of}
 use Rattle.stitch.specs.Claim.{Claim}
 use Rattle.stitch.specs.Entry.{Buffers, Lengths, lengths, room, Told, told, Gave, answer_read, Small}
@@ -17,7 +18,7 @@ use Rattle.cuts.specs.Cuts.{Through, cut_cell, place_in, section_of, segments_on
 use Rattle.cuts.specs.declared.Way.TheVariants.{Normal}
 
 -- 7: buffers of these lengths hold the numbers, nodes and ends of a section of m face corners
-abbrev pub section_in : Float → Lengths → ℕ → List Polygon → Frame → Outcome Answer
+abbrev pub section_in : Float → Lengths → ℕ → List Polygon → Plane → Outcome Answer
 section_in tol l m ps f = unless 7 (room (6 * m) (3 * m / 2) (m / 2) l) (found (section_of f tol ps))
 
 abbrev pub plane_cut : Cell → Through → Float → Lengths → Outcome Answer
@@ -35,7 +36,7 @@ most_segments Phed = 384
 -- an accepted cell of type t gives at most so many, whatever the plane and the tolerance
 abbrev pub SegmentsBounded : Type 0
 SegmentsBounded =
-    (k : Cell) (t : SpaceType) (ps : List Polygon) → space_type k.cell_type ≡ Known t → space_cell k ≡ found ps → (f : Frame) (tol : Float)
+    (k : Cell) (t : SpaceType) (ps : List Polygon) → space_type k.cell_type ≡ Some t → space_cell k ≡ found ps → (f : Plane) (tol : Float)
     → length (segments_on f tol ps) ≤ most_segments (shape_of t)
 
 -- ---- only the corners matter
@@ -53,8 +54,8 @@ AlikeByPlane =
 pub record PlaneSection (k : Cell) (g : Through) (tol : Float) (a : Answer) : Type 0 where
   pub polygons : List Polygon
   pub read_is : space_cell k ≡ found polygons
-  pub frame : Frame
-  pub frame_is : plane_of g.origin g.vector ≡ framed frame
+  pub frame : Plane
+  pub frame_is : plane_of g.origin g.vector ≡ Some frame
   pub few : length (segments_on frame tol polygons) ≤ 384
   pub claim : Claim (rule_of tol) (segments_on frame tol polygons) a
 

@@ -3,7 +3,6 @@ use mathlib.Core.Path.{ap}
 use mathlib.Core.List.{◌++◌, map}
 use native.Mathlib.Omega.{arith}
 use Rattle.vector.specs.Rows.{rows, segs}
-use Rattle.vector.specs.View.{frame_of}
 use Rattle.line_cut.specs.LineCut.{segment_on_line}
 use Rattle.cuts.proofs.Answers.{segments_same}
 use Rattle.line_cut.proofs.LoopsCut.{loop_few, loop_segments_lem}
@@ -13,26 +12,14 @@ pub put_on_line-requires : goal.put_on_line-requires
 put_on_line-requires c =
     let g = c.args in
     let ps = rows 2 g.p g.points.now in
-    let h = loop_segments_lem g.tol ps g.nodes.now c.axis.ensures c.loop_points.ensures c.plane_section_segments-found.ensures.segments in
+    let h = loop_segments_lem g.tol ps g.nodes.now c.axis-cut.ensures c.loop_points.ensures c.plane_section_segments-found.ensures.segments in
     let few = loop_few g.tol ps g.nodes.now h in
     let room = c.requires.0.for_flat in
     (omega (arith, c.plane_section_segments-found.auto.points), omega (arith, c.requires.1))
-
-pub shape_of-polygon : goal.shape_of-polygon
-shape_of-polygon c = c.loop_points.auto.out
-
-pub shape_of-clipped : goal.shape_of-clipped
-shape_of-clipped c = c.plane_section_segments-found.auto.points
-
-pub shape_of-flat : goal.shape_of-flat
-shape_of-flat c = c.plane_section_segments-found.auto.out
-
-pub shape_of-numbers : goal.shape_of-numbers
-shape_of-numbers c = c.put_on_line.auto.out
 
 pub returns : goal.returns
 returns c =
     let g = c.args in
     let ps = rows 2 g.p g.points.now in
-    let h = loop_segments_lem g.tol ps g.nodes.now c.axis.ensures c.loop_points.ensures c.plane_section_segments-found.ensures.segments in
-    record { segments = segments_same (ap (λ l. segs 3 g.from g.numbers.now ++ map (segment_on_line (frame_of g.plane)) l) h.are) c.put_on_line.ensures }
+    let h = loop_segments_lem g.tol ps g.nodes.now c.axis-cut.ensures c.loop_points.ensures c.plane_section_segments-found.ensures.segments in
+    record { segments = segments_same (ap (λ l. segs 3 g.from g.numbers.now ++ map (segment_on_line g.plane) l) h.are) c.put_on_line.ensures }

@@ -1,12 +1,7 @@
 -- `put_on_line` meets its contract. Assumes nothing.
-use Prim.Native.Nat.{◌-◌}
-use Rattle.vector.specs.View.{frame_of}
 use Rattle.line_cut.specs.LineCut.{segment_on_line}
 use Rattle.clip.proofs.Carrying.{Carrying}
 use Rattle.line_cut.proofs.put_on_line.Given as goal
 
 abbrev pub invariant-loop-i : goal.invariant-loop-i
-invariant-loop-i l = Carrying (segment_on_line (frame_of l.plane)) 2 3 l.k l.flat l.from l.initial.out l.i l.out
-
-abbrev pub decreases-loop-i : goal.decreases-loop-i
-decreases-loop-i l = l.k - l.i
+invariant-loop-i l = Carrying (segment_on_line l.plane) 2 3 l.k l.flat l.from l.initial.out l.i l.out

@@ -1,8 +1,11 @@
--- `line_cell` meets its contract: the tiers fit. Assumes nothing.
+-- `line_cell` meets its contract: the scratch fits. Assumes nothing.
 use native.Mathlib.Omega.{arith}
-use Rattle.cell.specs.Read.{cell}
+use Rattle.cell.specs.Read.{cell_of}
 use Rattle.plane_cell.proofs.Polygons.{few_corners}
 use Rattle.plane_cell.proofs.line_cell.Goals as goal
 
-pub line_large-requires : goal.line_large-requires
-line_large-requires c = (c.requires, omega (arith, few_corners (cell c.args.cell_type c.args.conn.now c.args.coords.now) _ c.requires.accepted, c.requires.corners))
+pub line_within-requires-2 : goal.line_within-requires-2
+line_within-requires-2 c =
+    let few = few_corners (cell_of c.args.cell.now) _ c.requires.accepted in
+    let m = c.requires.corners in
+    (c.requires, omega arith, omega arith, omega arith, omega arith)

@@ -2,40 +2,54 @@
 -- Assumes nothing.
 use mathlib.Core.Path.{◌∙◌, ap, sym}
 use native.Mathlib.Omega.{arith}
+use Rattle.std.proofs.lemmas.Result.{err_from_is_err_and}
 use Rattle.rows.proofs.Outcomes.{test_failed, test_passed}
-use Rattle.cell.specs.Read.{cell}
+use Rattle.rows.specs.Refusals.{outcome_of}
+use Rattle.cell.specs.Read.{cell_of}
 use Rattle.stitch.specs.Entry.{buffers, lengths}
 use Rattle.stitch.proofs.Entries.{gave_refusal, gave_section}
-use Rattle.cuts.specs.Cuts.{place_in, through}
-use Rattle.cuts.specs.Code.{placing}
+use Rattle.cuts.specs.Cuts.{place_in}
+use Rattle.cuts.specs.Code.{through_of}
 use Rattle.cuts.specs.declared.Way.TheVariants.{Normal}
 use Rattle.cuts.proofs.Cutting.{at_work, cell_refused, corners_few, place_refused}
 use Rattle.plane_cut.specs.PlaneCut.{section_in}
 use Rattle.plane_cut.proofs.Claims.{can_section}
 use Rattle.plane_cut.proofs.section_cell_by_plane.Goals as goal
 
-pub overflow_mul-corners : goal.overflow_mul-corners
-overflow_mul-corners c = omega (arith, corners_few (cell c.args.cell_type c.args.conn.now c.args.coords.now) c.test_space_cell.ensures c.in-Cell.is)
+pub returns-in_err-corners : goal.returns-in_err-corners
+returns-in_err-corners c =
+    let g = c.args in
+    let p = err_from_is_err_and c.from_residual.result c.from_residual.ensures.1 in
+    rw (p.1, p.2)
+    (gave_refusal _ (cell_refused c.test_in_space.ensures (place_in Normal (through_of g.through.now))
+    (section_in g.tol (lengths (buffers g.numbers.now g.nodes.now g.ends.now))) c.in_err-corners.was))
 
-pub overflow_mul-corners-in-On : goal.overflow_mul-corners-in-On
-overflow_mul-corners-in-On c = omega (arith, corners_few (cell c.args.cell_type c.args.conn.now c.args.coords.now) c.test_space_cell.ensures c.in-Cell.is)
+pub returns-in_err-plane : goal.returns-in_err-plane
+returns-in_err-plane c =
+    let g = c.args in
+    let p = err_from_is_err_and c.from_residual-in_err-plane.result c.from_residual-in_err-plane.ensures.1 in
+    rw (p.1, p.2)
+    (gave_refusal _ (place_refused c.test_in_space.ensures c.in_ok-corners.was
+    (section_in g.tol (lengths (buffers g.numbers.now g.nodes.now g.ends.now))) (sym c.in_err-plane.ensures)))
+
+pub overflow_mul-corners : goal.overflow_mul-corners
+overflow_mul-corners c = omega (arith, corners_few (cell_of c.args.cell.now) c.test_in_space.ensures c.in_ok-corners.was)
+
+pub overflow_mul-corners-2 : goal.overflow_mul-corners-2
+overflow_mul-corners-2 c = omega (arith, corners_few (cell_of c.args.cell.now) c.test_in_space.ensures c.in_ok-corners.was)
 
 pub returns-then-not-room : goal.returns-then-not-room
 returns-then-not-room c =
-    gave_refusal _ (at_work c.test_space_cell.ensures c.in-Cell.is (let g = c.args in section_in g.tol (lengths (buffers g.numbers.now g.nodes.now g.ends.now))) (sym c.place.ensures ∙ ap placing c.in-On.is) (test_failed 7 _ _ (sym c.room.ensures ∙ c.if-not-room.true)))
+    let g = c.args in
+    gave_refusal _ (at_work c.test_in_space.ensures c.in_ok-corners.was (section_in g.tol (lengths (buffers g.numbers.now g.nodes.now g.ends.now)))
+    (sym c.place.ensures ∙ ap outcome_of c.in_ok-plane.was) (test_failed 7 _ _ (sym c.room.ensures ∙ c.if-not-room.true)))
 
 pub section_cell-requires : goal.section_cell-requires
 section_cell-requires c =
-    can_section (cell c.args.cell_type c.args.conn.now c.args.coords.now) c.test_space_cell.ensures c.in-Cell.is _ _ _ (sym c.room.ensures ∙ c.if-not-room.false)
+    can_section (cell_of c.args.cell.now) c.test_in_space.ensures c.in_ok-corners.was _ _ _ (sym c.room.ensures ∙ c.if-not-room.false)
 
-pub returns-in-Refused : goal.returns-in-Refused
-returns-in-Refused c =
-    gave_refusal _ (cell_refused c.test_space_cell.ensures (place_in Normal (through c.args.origin.now c.args.normal.now)) (let g = c.args in section_in g.tol (lengths (buffers g.numbers.now g.nodes.now g.ends.now))) c.in-Refused.is)
-
-pub returns-in-Refused-place : goal.returns-in-Refused-place
-returns-in-Refused-place c =
-    gave_refusal _ (place_refused c.test_space_cell.ensures c.in-Cell.is (let g = c.args in section_in g.tol (lengths (buffers g.numbers.now g.nodes.now g.ends.now))) (sym c.place.ensures ∙ ap placing c.in-Refused-place.is))
-
-pub returns-else-not-room : goal.returns-else-not-room
-returns-else-not-room c =
-    gave_section (at_work c.test_space_cell.ensures c.in-Cell.is (let g = c.args in section_in g.tol (lengths (buffers g.numbers.now g.nodes.now g.ends.now))) (sym c.place.ensures ∙ ap placing c.in-On.is) (test_passed 7 _ _ (sym c.room.ensures ∙ c.if-not-room.false))) c.section_cell.ensures.stitched
+pub returns : goal.returns
+returns c =
+    let g = c.args in
+    gave_section (at_work c.test_in_space.ensures c.in_ok-corners.was (section_in g.tol (lengths (buffers g.numbers.now g.nodes.now g.ends.now)))
+    (sym c.place.ensures ∙ ap outcome_of c.in_ok-plane.was) (test_passed 7 _ _ (sym c.room.ensures ∙ c.if-not-room.false))) c.section_cell.ensures.stitched
