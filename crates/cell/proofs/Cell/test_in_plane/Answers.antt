@@ -38,4 +38,4 @@ returns c =
     let a = counts_allowed 2 (plane_nodes k) (cell_of c.args.self.now) (rw c.nodes.ensures at c.in_ok-rows.ensures) in
     faces_told 2 typed_in_plane _ (cell_of c.args.self.now) c.in_ok-k.ensures (plane_nodes k) (λ c. polygon_of (plane_corners k (length c))) refl
     (rw c.nodes.ensures at c.in_ok-rows.ensures)
-    (c.test_corners.ensures ∙ ap (corners_tested c.args.self.now.conn.now _) (rw c.corners-n.ensures (polygon_taken (plane_corners k n) 256 _ refl (plane_few k n a))))
+    (c.test_corners.ensures ∙ ap (corners_tested (cell_of c.args.self.now) _) (rw c.corners-n.ensures (polygon_taken (plane_corners k n) 256 _ refl (plane_few k n a))))

@@ -18,7 +18,7 @@ returns-in_err-rows c =
     _ (rw c.nodes.ensures at c.in_err-rows.ensures) c.from_residual-in_err-rows.ensures.1
 
 pub test_faces-requires : goal.test_faces-requires
-test_faces-requires c = rw c.shape.ensures (testable c.in_ok-k.k _ (counts_allowed 3 _ (cell_of c.args.self.now) (rw c.nodes.ensures at c.in_ok-rows.ensures)))
+test_faces-requires c = rw c.shape.ensures (testable c.in_ok-k.k (cell_of c.args.self.now) (counts_allowed 3 _ (cell_of c.args.self.now) (rw c.nodes.ensures at c.in_ok-rows.ensures)))
 
 pub returns : goal.returns
 returns c =
