@@ -37,9 +37,9 @@ impl Cell<'_> {
     pub fn test_in_space(&self) -> Result<usize, Refusal>
         ensures { Tested (space_cell (cell_of self.now)) result }
     {
-        let k = SpaceType::try_from(self.cell_type)?;
-        let rows = self.rows::<3>(k.nodes())?;
-        self.test_faces(k.shape(), rows)
+        let kind = SpaceType::try_from(self.cell_type)?;
+        let rows = self.rows::<3>(kind.nodes())?;
+        self.test_faces(kind.shape(), rows)
     }
 
     // The corners' coordinates of an accepted cell in space, written over the start of `out` face by face, and where
@@ -51,17 +51,17 @@ impl Cell<'_> {
         ensures { Copied (polygons_of (space_cell (cell_of self.now))) result
             out.old out.new face_ends.old face_ends.new }
     {
-        let k = SpaceType::try_from(self.cell_type).unwrap();
-        self.copy_faces(k.shape(), out, face_ends)
+        let kind = SpaceType::try_from(self.cell_type).unwrap();
+        self.copy_faces(kind.shape(), out, face_ends)
     }
 
     // Refusals 1 to 4 of a cell in the plane, or how many corners it has. Writes nothing.
     pub fn test_in_plane(&self) -> Result<usize, Refusal>
         ensures { Tested (plane_cell (cell_of self.now)) result }
     {
-        let k = PlaneType::try_from(self.cell_type)?;
-        let rows = self.rows::<2>(k.nodes())?;
-        let n = k.corners(self.conn.len());
+        let kind = PlaneType::try_from(self.cell_type)?;
+        let rows = self.rows::<2>(kind.nodes())?;
+        let n = kind.corners(self.conn.len());
         self.test_corners(&POSITIONS[..n], rows)
     }
 
@@ -71,8 +71,8 @@ impl Cell<'_> {
             × (2 * corners_of (plane_cell (cell_of self.now)) ≤ length out.old) }
         ensures { CopiedPolygon (polygons_of (plane_cell (cell_of self.now))) out.old out.new }
     {
-        let k = PlaneType::try_from(self.cell_type).unwrap();
-        let n = k.corners(self.conn.len());
+        let kind = PlaneType::try_from(self.cell_type).unwrap();
+        let n = kind.corners(self.conn.len());
         self.copy_rows::<2>(&POSITIONS[..n], out)
     }
 
@@ -91,12 +91,12 @@ impl Cell<'_> {
     }
 
     // Refusal 4, or how many corners the faces of this shape have.
-    fn test_faces(&self, s: Shape, rows: usize) -> Result<usize, Refusal>
-        requires { Testable (cell_of self.now) (faces_of s self.now.conn.now) }
+    fn test_faces(&self, shape: Shape, rows: usize) -> Result<usize, Refusal>
+        requires { Testable (cell_of self.now) (faces_of shape self.now.conn.now) }
         ensures { outcome_of result ≡ corners_tested (cell_of self.now) rows
-            (flatten (faces_of s self.now.conn.now)) }
+            (flatten (faces_of shape self.now.conn.now)) }
     {
-        match s {
+        match shape {
             Shape::Tet => self.test_corners(TET.corners, rows),
             Shape::Wedge => self.test_corners(WEDGE.corners, rows),
             Shape::Hex => self.test_corners(HEX.corners, rows),
@@ -123,12 +123,12 @@ impl Cell<'_> {
     }
 
     // The corners of the faces of this shape, all of which are rows.
-    fn copy_faces(&self, s: Shape, out: &mut [f64], face_ends: &mut [usize]) -> Kept
-        requires { CopiesFaces (cell_of self.now) (faces_of s self.now.conn.now) out.old face_ends.old }
-        ensures { Copied (polygons 3 self.now.conn.now self.now.coords.now (faces_of s self.now.conn.now)) result
+    fn copy_faces(&self, shape: Shape, out: &mut [f64], face_ends: &mut [usize]) -> Kept
+        requires { CopiesFaces (cell_of self.now) (faces_of shape self.now.conn.now) out.old face_ends.old }
+        ensures { Copied (polygons 3 self.now.conn.now self.now.coords.now (faces_of shape self.now.conn.now)) result
             out.old out.new face_ends.old face_ends.new }
     {
-        match s {
+        match shape {
             Shape::Tet => self.put_faces(TET, out, face_ends),
             Shape::Wedge => self.put_faces(WEDGE, out, face_ends),
             Shape::Hex => self.put_faces(HEX, out, face_ends),
