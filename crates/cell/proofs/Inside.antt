@@ -1,16 +1,14 @@
 -- The positions of a cell's faces are positions of its connectivity, and those of a fixed type its corners. Assumes nothing.
-use mathlib.Core.Path.{◌≡◌}
 use mathlib.Core.List.{List, [], ◌∷◌, flatten}
 use mathlib.Core.Bool.{Bool, true, false, cond, ◌&&◌}
 use Prim.Native.Nat.{ℕ, suc, ◌+◌, ◌≤◌, ◌<◌}
 use native.Mathlib.Omega.{arith}
-use borrow.Author.Tests.{eqb-true}
 use lib.Dec.{T, eqb, ltb, ltb→lt}
 use lib.Ieee.Fits.{and_l, and_r}
 use Rattle.std.specs.List.{All}
 use Rattle.std.proofs.lemmas.List.Elements.{All-nil, All-cons, All-head, All-tail, All-append, All-weaker}
 use lib.ListN.{length}
-use Rattle.cell.specs.Types.{allow, space_nodes, space_corners, shape_of}
+use Rattle.cell.specs.Types.{space_corners, shape_of}
 use Rattle.cell.specs.Faces.{Face, tet, wedge, hex, separator, onto, stretches, kept, faces_of}
 use Rattle.cell.specs.Code.{Below}
 use Rattle.cell.specs.declared.types.SpaceType.{SpaceType}
