@@ -160,7 +160,7 @@ impl PlaneType {
 
     pub const PGON: u8 = 11;
 
-    // Its node count.
+    // Its node count; of a PGON the most.
     pub fn nodes(self) -> Nodes
         ensures { result ≡ plane_nodes self }
     {
