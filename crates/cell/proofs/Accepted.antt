@@ -28,7 +28,7 @@ use Rattle.cell.specs.declared.types.Nodes.{Nodes}
 use Rattle.cell.specs.declared.types.PlaneType.{PlaneType}
 use Rattle.cell.specs.declared.types.SpaceType.{SpaceType}
 use Rattle.cell.proofs.Answers.{Passed, unknown_type, counted, polygons_size, polygons_count, space_read, plane_read}
-use Rattle.cell.proofs.Bounds.{corners_within, nodes_few, plane_few}
+use Rattle.cell.proofs.Bounds.{space_sizes, plane_sizes}
 use Rattle.cell.proofs.Inside.{inside}
 use Rattle.cell.proofs.Polygon.{polygon_below}
 
@@ -79,7 +79,7 @@ module _ {A : Type 0} (w : ℕ) (told : Option A → Typed) (o : Option A) (k : 
     counts_told e h p = refused_as _ e _ (read_on _ h) p
 
     -- 4 and the answer
-    pub faces_told : {m : ℕ} {r : Result ℕ Refusal} → found m ≡ rows_tested w n k → outcome_of r ≡ corners_tested k.conn m (flatten (faces k.conn))
+    pub faces_told : {m : ℕ} {r : Result ℕ Refusal} → found m ≡ rows_tested w n k → outcome_of r ≡ corners_tested k m (flatten (faces k.conn))
         → Tested (read_as w (told o) k.conn k.coords) r
     faces_told {m} h t = rw (read_on _ h) (record { tells = t ∙ by_test (are_rows k.conn m (flatten (faces k.conn))) })
       where
@@ -88,92 +88,88 @@ module _ {A : Type 0} (w : ℕ) (told : Option A → Typed) (o : Option A) (k : 
         by_test true = ap found (polygons_size w k.conn k.coords (faces k.conn))
         by_test false = refl
 
-pub testable : (k : SpaceType) (c : List ℕ) → allow (space_nodes k) (length c) ≡ true → Testable c (faces_of (shape_of k) c)
-testable k c a = record { few = nodes_few k (length c) a; inside = inside k c a }
+pub testable : (t : SpaceType) (k : Cell) → allow (space_nodes t) (length k.conn) ≡ true → Testable k (faces_of (shape_of t) k.conn)
+testable t k a = let z = space_sizes t (length k.conn) a in record { few = z.0; inside = inside t k.conn z.1 }
 
 -- ---- the copy
 
 -- the corners that were copied are the polygons'
-pub corners_copied : (w : ℕ) (c : List ℕ) (xs : List Float) (fs : List Face) (ps : List ℕ) (out : List Float) → ps ≡ flatten fs
-    → over (gathered w c xs ps) out ≡ over (flatten (flatten (polygons w c xs fs))) out
-corners_copied w c xs fs ps out p =
-    ap (λ l. over (flatten l) out) (ap (map (corner w c xs)) p ∙ sym (flatten_map (corner w c xs) fs))
+pub corners_copied : (w : ℕ) (k : Cell) (fs : List Face) (ps : List ℕ) (out : List Float) → ps ≡ flatten fs
+    → over (gathered w k ps) out ≡ over (flatten (flatten (polygons w k.conn k.coords fs))) out
+corners_copied w k fs ps out p =
+    ap (λ l. over (flatten l) out) (ap (map (corner w k.conn k.coords)) p ∙ sym (flatten_map (corner w k.conn k.coords) fs))
 
-pub copies_at : {w : ℕ} {c : List ℕ} {xs : List Float} {ps qs : List ℕ} {out : List Float} → ps ≡ qs → Copies w c xs qs out
-    → Copies w c xs ps out
-copies_at {w} {c} {xs} {out = out} e h = subst (λ l. Copies w c xs l out) (sym e) h
+pub copies_at : {w : ℕ} {k : Cell} {ps qs : List ℕ} {out : List Float} → ps ≡ qs → Copies w k qs out → Copies w k ps out
+copies_at {w} {k} {out = out} e h = subst (λ l. Copies w k l out) (sym e) h
 
-module _ (c : List ℕ) (xs : List Float) {fs : List Face} {l : FaceList} (h : Lists fs l) where
-  pub puts : (out : List Float) (ends : List ℕ) → CopiesFaces c xs fs out ends → PutsFaces l c xs out ends
+module _ (k : Cell) {fs : List Face} {l : FaceList} (h : Lists fs l) where
+  pub puts : (out : List Float) (ends : List ℕ) → CopiesFaces k fs out ends → PutsFaces k l out ends
   puts out ends r = record { copies = copies_at h.corners r.copies; space = omega (arith, ap length h.ends, length_ends 0 fs, r.space) }
 
-  pub copied : (out out' : List Float) (ends ends' : List ℕ) → out' ≡ over (gathered 3 c xs l.corners.now) out → ends' ≡ over l.ends.now ends
-      → Copied (polygons 3 c xs fs) (record { corners = length l.corners.now; faces = length l.ends.now }) out out' ends ends'
+  pub copied : (out out' : List Float) (ends ends' : List ℕ) → out' ≡ over (gathered 3 k l.corners.now) out → ends' ≡ over l.ends.now ends
+      → Copied (polygons 3 k.conn k.coords fs) (record { corners = length l.corners.now; faces = length l.ends.now }) out out' ends ends'
   copied out out' ends ends' f g =
+      let c = k.conn in
+      let xs = k.coords in
       record {
         kept_is =
             ap (λ m. record { corners = m; faces = length l.ends.now }) (ap length h.corners ∙ polygons_size 3 c xs fs)
             ∙ ap {B = Kept} (λ f. record { corners = length (flatten (polygons 3 c xs fs)); faces = f })
             (ap length h.ends ∙ length_ends 0 fs ∙ polygons_count 3 c xs fs);
-        coords = f ∙ corners_copied 3 c xs fs l.corners.now out h.corners;
+        coords = f ∙ corners_copied 3 k fs l.corners.now out h.corners;
         places = g ∙ ap (λ e. over e ends) (h.ends ∙ sym (ends_map (corner 3 c xs) 0 fs));
       }
 
 -- ---- what an accepted cell brings along
 
-module _ (k : Cell) (a : Accepted (space_cell k)) where
-  pub copies_space : (t : SpaceType) → Ok t ≡ ok_or (space_type k.cell_type) CellType → (out : List Float) (ends : List ℕ)
-      → 3 * corners_of (space_cell k) ≤ length out → face_count (space_cell k) ≤ length ends
-      → CopiesFaces k.conn k.coords (faces_of (shape_of t) k.conn) out ends
-  copies_space t e out ends h l =
+module _ (k : Cell) (a : Accepted (space_cell k)) (t : SpaceType) (e : Ok t ≡ ok_or (space_type k.cell_type) CellType) where
+  -- the type is the one that was read
+  space_passed : Passed 3 (space_nodes t) (faces_of (shape_of t)) k.conn k.coords (polygons_of (space_cell k))
+  space_passed =
       let q = space_read k (polygons_of (space_cell k)) a in
-      let fs = faces_of (shape_of q.kind) k.conn in
-      let m : length (flatten fs) ≡ corners_of (space_cell k)
-      = polygons_size 3 k.conn k.coords fs ∙ ap (λ l. length (flatten l)) (sym q.passed.are) in
-      let f : length fs ≡ face_count (space_cell k) = polygons_count 3 k.conn k.coords fs ∙ ap length (sym q.passed.are) in
-      subst (λ t. CopiesFaces k.conn k.coords (faces_of (shape_of t) k.conn) out ends) (same q.known e)
-      (record {
-        few = nodes_few q.kind (length k.conn) q.passed.allowed;
-        copies =
-            record {
-              wide = omega arith;
-              inside = inside q.kind k.conn q.passed.allowed;
-              all_are_rows = q.passed.all_are_rows;
-              room = omega arith;
-            };
-        space = omega arith;
-      })
+      subst (λ t. Passed 3 (space_nodes t) (faces_of (shape_of t)) k.conn k.coords (polygons_of (space_cell k))) (same q.known e) q.passed
 
-  pub space_polygons : (t : SpaceType) → Ok t ≡ ok_or (space_type k.cell_type) CellType
-      → polygons 3 k.conn k.coords (faces_of (shape_of t) k.conn) ≡ polygons_of (space_cell k)
-  space_polygons t e =
-      let q = space_read k (polygons_of (space_cell k)) a in
-      ap (λ t. polygons 3 k.conn k.coords (faces_of (shape_of t) k.conn)) (sym (same q.known e)) ∙ sym q.passed.are
+  pub copies_space : (out : List Float) (ends : List ℕ) → 3 * corners_of (space_cell k) ≤ length out
+      → face_count (space_cell k) ≤ length ends → CopiesFaces k (faces_of (shape_of t) k.conn) out ends
+  copies_space out ends h l =
+      let p = space_passed in
+      let fs = faces_of (shape_of t) k.conn in
+      let z = space_sizes t (length k.conn) p.allowed in
+      let m : length (flatten fs) ≡ corners_of (space_cell k)
+      = polygons_size 3 k.conn k.coords fs ∙ ap (λ l. length (flatten l)) (sym p.are) in
+      let f : length fs ≡ face_count (space_cell k) = polygons_count 3 k.conn k.coords fs ∙ ap length (sym p.are) in
+      record {
+        few = z.0;
+        copies = record { wide = omega arith; inside = inside t k.conn z.1; all_are_rows = p.all_are_rows; room = omega arith };
+        space = omega arith;
+      }
+
+  pub space_polygons : polygons 3 k.conn k.coords (faces_of (shape_of t) k.conn) ≡ polygons_of (space_cell k)
+  space_polygons = sym space_passed.are
 
 module _ (k : Cell) (a : Accepted (plane_cell k)) (t : PlaneType) (e : Ok t ≡ ok_or (plane_type k.cell_type) CellType) where
-  -- the type is the one that was read
-  passed_as : Passed 2 (plane_nodes t) (λ c. polygon_of (plane_corners t (length c))) k.conn k.coords (polygons_of (plane_cell k))
-  passed_as =
+  plane_passed : Passed 2 (plane_nodes t) (λ c. polygon_of (plane_corners t (length c))) k.conn k.coords (polygons_of (plane_cell k))
+  plane_passed =
       let q = plane_read k (polygons_of (plane_cell k)) a in
       subst (λ t. Passed 2 (plane_nodes t) (λ c. polygon_of (plane_corners t (length c))) k.conn k.coords (polygons_of (plane_cell k))) (same q.known e) q.passed
 
   pub plane_few_corners : plane_corners t (length k.conn) ≤ 256
-  plane_few_corners = plane_few t (length k.conn) passed_as.allowed
+  plane_few_corners = (plane_sizes t (length k.conn) plane_passed.allowed).1
 
   pub copies_plane : (ps : List ℕ) (out : List Float) → ps ≡ flatten (polygon_of (plane_corners t (length k.conn)))
-      → 2 * corners_of (plane_cell k) ≤ length out → Copies 2 k.conn k.coords ps out
+      → 2 * corners_of (plane_cell k) ≤ length out → Copies 2 k ps out
   copies_plane ps out q h =
       let n = plane_corners t (length k.conn) in
       let m : length (flatten (polygon_of n)) ≡ corners_of (plane_cell k)
-      = polygons_size 2 k.conn k.coords (polygon_of n) ∙ ap (λ l. length (flatten l)) (sym passed_as.are) in
+      = polygons_size 2 k.conn k.coords (polygon_of n) ∙ ap (λ l. length (flatten l)) (sym plane_passed.are) in
       copies_at q (record {
         wide = omega arith;
-        inside = polygon_below (length k.conn) n (corners_within t (length k.conn) passed_as.allowed);
-        all_are_rows = passed_as.all_are_rows;
+        inside = polygon_below (length k.conn) n (plane_sizes t (length k.conn) plane_passed.allowed).0;
+        all_are_rows = plane_passed.all_are_rows;
         room = omega arith;
       })
 
   pub plane_copied : (ps : List ℕ) (out out' : List Float) → ps ≡ flatten (polygon_of (plane_corners t (length k.conn)))
-      → out' ≡ over (gathered 2 k.conn k.coords ps) out → CopiedPolygon (polygons_of (plane_cell k)) out out'
+      → out' ≡ over (gathered 2 k ps) out → CopiedPolygon (polygons_of (plane_cell k)) out out'
   plane_copied ps out out' q h =
-      rw passed_as.are (record { coords = h ∙ corners_copied 2 k.conn k.coords (polygon_of (plane_corners t (length k.conn))) ps out q })
+      rw plane_passed.are (record { coords = h ∙ corners_copied 2 k (polygon_of (plane_corners t (length k.conn))) ps out q })

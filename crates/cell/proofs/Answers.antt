@@ -81,6 +81,12 @@ passed w n faces c xs ps r =
     tests (allow n (length c)) (eqb (length xs % w) 0) (are_rows c (length xs / w) (flatten (faces c))) (polygons w c xs (faces c)) ps r in
     record { allowed = t.0; all_are_rows = t.1; are = t.2 }
 
+-- polygons are found only where the type is known
+known_read : {A : Type 0} (w : ℕ) (told : Option A → Typed) (o : Option A) (k : Cell) (ps : List Polygon) → told None ≡ untyped
+    → read_as w (told o) k.conn k.coords ≡ found ps → (a : A) × (o ≡ Some a) × (read_as w (told (Some a)) k.conn k.coords ≡ found ps)
+known_read w told None k ps u r = absurd (never_both (sym (unknown_type w k.conn k.coords (told None) u) ∙ r))
+known_read w told (Some a) k ps u r = (a, refl, r)
+
 -- a cell in space whose polygons are ps: its type is known, and its faces are that type's
 pub record SpaceRead (k : Cell) (ps : List Polygon) : Type 0 where
   pub kind : SpaceType
@@ -88,17 +94,9 @@ pub record SpaceRead (k : Cell) (ps : List Polygon) : Type 0 where
   pub passed : Passed 3 (space_nodes kind) (faces_of (shape_of kind)) k.conn k.coords ps
 
 pub space_read : (k : Cell) (ps : List Polygon) → space_cell k ≡ found ps → SpaceRead k ps
-unfolding read_as
-space_read k ps r = by_type (space_type k.cell_type) refl
-  where
-    by_type : (o : Option SpaceType) → space_type k.cell_type ≡ o → SpaceRead k ps
-    by_type None e = absurd (never_both (ap (λ o. read_as 3 (typed_in_space o) k.conn k.coords) (sym e) ∙ r))
-    by_type (Some t) e =
-        record {
-          kind = t;
-          known = e;
-          passed = passed 3 _ _ _ _ ps (ap (λ o. read_as 3 (typed_in_space o) k.conn k.coords) (sym e) ∙ r);
-        }
+space_read k ps r =
+    let q = known_read 3 typed_in_space (space_type k.cell_type) k ps refl r in
+    record { kind = q.0; known = q.1; passed = passed 3 _ _ _ _ ps q.2 }
 
 -- and one in the plane: it is one polygon of the corners that its type has
 pub record PlaneRead (k : Cell) (ps : List Polygon) : Type 0 where
@@ -107,17 +105,9 @@ pub record PlaneRead (k : Cell) (ps : List Polygon) : Type 0 where
   pub passed : Passed 2 (plane_nodes kind) (λ c. polygon_of (plane_corners kind (length c))) k.conn k.coords ps
 
 pub plane_read : (k : Cell) (ps : List Polygon) → plane_cell k ≡ found ps → PlaneRead k ps
-unfolding read_as
-plane_read k ps r = by_type (plane_type k.cell_type) refl
-  where
-    by_type : (o : Option PlaneType) → plane_type k.cell_type ≡ o → PlaneRead k ps
-    by_type None e = absurd (never_both (ap (λ o. read_as 2 (typed_in_plane o) k.conn k.coords) (sym e) ∙ r))
-    by_type (Some t) e =
-        record {
-          kind = t;
-          known = e;
-          passed = passed 2 _ _ _ _ ps (ap (λ o. read_as 2 (typed_in_plane o) k.conn k.coords) (sym e) ∙ r);
-        }
+plane_read k ps r =
+    let q = known_read 2 typed_in_plane (plane_type k.cell_type) k ps refl r in
+    record { kind = q.0; known = q.1; passed = passed 2 _ _ _ _ ps q.2 }
 
 -- ---- as many polygons and corners as faces and positions
 

@@ -8,10 +8,12 @@ use borrow.Author.Tests.{eqb-true, leb-true, ltb-false}
 use lib.Dec.{eqb, ltb}
 use Rattle.std.proofs.Common.{Option, Some, None}
 use lib.ListN.{length, length-append}
-use Rattle.cell.specs.Types.{allow, space_number, space_type, space_nodes, shape_of, plane_nodes, plane_corners}
+use Rattle.cell.specs.Types.{allow, space_number, space_type, space_nodes, space_corners, shape_of, plane_nodes, plane_corners}
 use Rattle.cell.specs.Faces.{Face, separator, onto, stretches, kept, faces_of, polygon_of}
 use Rattle.cell.specs.Read.{Polygon, Cell}
 use Rattle.cell.specs.Claims.{SpaceBounds, SpaceBounded, PlaneBounded}
+use Rattle.cell.specs.declared.types.Shape.{Shape}
+use Rattle.cell.specs.declared.types.Shape.TheVariants as h
 use Rattle.cell.specs.declared.types.SpaceType.{SpaceType}
 use Rattle.cell.specs.declared.types.SpaceType.TheVariants.{Tet4, Tet10, Hex8, Hex21, Wedge6, Wedge15, Phed}
 use Rattle.cell.specs.declared.types.PlaneType.{PlaneType}
@@ -57,29 +59,26 @@ threes_kept (f ∷ fs) = either (kept fs) (threes_kept fs) (ltb (length f) 3) re
 
 -- ---- every type in space
 
-pub nodes_few : (k : SpaceType) (n : ℕ) → allow (space_nodes k) n ≡ true → n ≤ 256
-nodes_few Tet4 n e = omega (arith, eqb-true n 4 e)
-nodes_few Tet10 n e = omega (arith, eqb-true n 10 e)
-nodes_few Hex8 n e = omega (arith, eqb-true n 8 e)
-nodes_few Hex21 n e = omega (arith, eqb-true n 21 e)
-nodes_few Wedge6 n e = omega (arith, eqb-true n 6 e)
-nodes_few Wedge15 n e = omega (arith, eqb-true n 15 e)
-nodes_few Phed n e = leb-true n 256 e
+-- at most 256 nodes, the corners among them
+pub space_sizes : (k : SpaceType) (n : ℕ) → allow (space_nodes k) n ≡ true → (n ≤ 256) × (space_corners k n ≤ n)
+space_sizes Tet4 n e = let q = eqb-true n 4 e in (omega arith, omega arith)
+space_sizes Tet10 n e = let q = eqb-true n 10 e in (omega arith, omega arith)
+space_sizes Hex8 n e = let q = eqb-true n 8 e in (omega arith, omega arith)
+space_sizes Hex21 n e = let q = eqb-true n 21 e in (omega arith, omega arith)
+space_sizes Wedge6 n e = let q = eqb-true n 6 e in (omega arith, omega arith)
+space_sizes Wedge15 n e = let q = eqb-true n 15 e in (omega arith, omega arith)
+space_sizes Phed n e = (leb-true n 256 e, omega arith)
 
 module _ (c : List ℕ) where
   pub phed_few : length (flatten (kept (stretches 0 c))) ≤ length c
   phed_few = omega (arith, size_kept (stretches 0 c), size_stretches 0 c)
 
-  faces_bounds : (k : SpaceType) → allow (space_nodes k) (length c) ≡ true
-      → SpaceBounds (shape_of k) (length (flatten (faces_of (shape_of k) c))) (length (faces_of (shape_of k) c))
+  faces_bounds : (s : Shape) → length c ≤ 256 → SpaceBounds s (length (flatten (faces_of s c))) (length (faces_of s c))
   unfolding flatten
-  faces_bounds Tet4 e = record { corners = refl; faces = omega arith }
-  faces_bounds Tet10 e = record { corners = refl; faces = omega arith }
-  faces_bounds Hex8 e = record { corners = refl; faces = omega arith }
-  faces_bounds Hex21 e = record { corners = refl; faces = omega arith }
-  faces_bounds Wedge6 e = record { corners = refl; faces = omega arith }
-  faces_bounds Wedge15 e = record { corners = refl; faces = omega arith }
-  faces_bounds Phed e = record { corners = omega (arith, phed_few, leb-true (length c) 256 e); faces = threes_kept (stretches 0 c) }
+  faces_bounds h.Tet e = record { corners = refl; faces = omega arith }
+  faces_bounds h.Wedge e = record { corners = refl; faces = omega arith }
+  faces_bounds h.Hex e = record { corners = refl; faces = omega arith }
+  faces_bounds h.Phed e = record { corners = omega (arith, phed_few); faces = threes_kept (stretches 0 c) }
 
 -- ---- a type found by its number has that number
 
@@ -108,23 +107,15 @@ space_number_lem t k e =
 
 -- ---- every type in the plane
 
-pub corners_within : (k : PlaneType) (n : ℕ) → allow (plane_nodes k) n ≡ true → plane_corners k n ≤ n
-corners_within Tri3 n e = omega (arith, eqb-true n 3 e)
-corners_within Tri6 n e = omega (arith, eqb-true n 6 e)
-corners_within Tri7 n e = omega (arith, eqb-true n 7 e)
-corners_within Quad4 n e = omega (arith, eqb-true n 4 e)
-corners_within Quad8 n e = omega (arith, eqb-true n 8 e)
-corners_within Quad9 n e = omega (arith, eqb-true n 9 e)
-corners_within Pgon n e = omega arith
-
-pub plane_few : (k : PlaneType) (n : ℕ) → allow (plane_nodes k) n ≡ true → plane_corners k n ≤ 256
-plane_few Tri3 n e = omega arith
-plane_few Tri6 n e = omega arith
-plane_few Tri7 n e = omega arith
-plane_few Quad4 n e = omega arith
-plane_few Quad8 n e = omega arith
-plane_few Quad9 n e = omega arith
-plane_few Pgon n e = leb-true n 256 e
+-- the corners are among the nodes, and at most 256
+pub plane_sizes : (k : PlaneType) (n : ℕ) → allow (plane_nodes k) n ≡ true → (plane_corners k n ≤ n) × (plane_corners k n ≤ 256)
+plane_sizes Tri3 n e = let q = eqb-true n 3 e in (omega arith, omega arith)
+plane_sizes Tri6 n e = let q = eqb-true n 6 e in (omega arith, omega arith)
+plane_sizes Tri7 n e = let q = eqb-true n 7 e in (omega arith, omega arith)
+plane_sizes Quad4 n e = let q = eqb-true n 4 e in (omega arith, omega arith)
+plane_sizes Quad8 n e = let q = eqb-true n 8 e in (omega arith, omega arith)
+plane_sizes Quad9 n e = let q = eqb-true n 9 e in (omega arith, omega arith)
+plane_sizes Pgon n e = (omega arith, leb-true n 256 e)
 
 -- ---- an accepted cell
 
@@ -137,7 +128,7 @@ space_bounds k ps r =
     = polygons_size 3 k.conn k.coords fs ∙ ap (λ l. length (flatten l)) (sym e) in
     let f : length fs ≡ length ps = polygons_count 3 k.conn k.coords fs ∙ ap length (sym e) in
     subst (λ n. SpaceBounds (shape_of r.kind) n (length ps)) m
-    (subst (λ n. SpaceBounds (shape_of r.kind) (length (flatten fs)) n) f (faces_bounds k.conn r.kind r.passed.allowed))
+    (subst (λ n. SpaceBounds (shape_of r.kind) (length (flatten fs)) n) f (faces_bounds k.conn (shape_of r.kind) (space_sizes r.kind (length k.conn) r.passed.allowed).0))
 
 same_space : (t u : SpaceType) (o : Option SpaceType) → o ≡ Some t → o ≡ Some u → t ≡ u
 same_space t u o e f = cc
@@ -153,4 +144,4 @@ plane_bounded k ps r =
     let n = plane_corners q.kind (length k.conn) in
     let m : length (flatten ps) ≡ n
     = ap (λ l. length (flatten l)) q.passed.are ∙ sym (polygons_size 2 k.conn k.coords (polygon_of n)) ∙ length_polygon n in
-    record { kind = q.kind; known = q.known; corners = m; most = omega (arith, plane_few q.kind (length k.conn) q.passed.allowed); faces = ap length q.passed.are }
+    record { kind = q.kind; known = q.known; corners = m; most = omega (arith, (plane_sizes q.kind (length k.conn) q.passed.allowed).1); faces = ap length q.passed.are }

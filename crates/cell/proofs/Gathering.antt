@@ -11,10 +11,10 @@ use lib.Dec.{T, ltb, ltb→lt}
 use lib.Ieee.{Float}
 use lib.Ieee.Fits.{and_l, and_r}
 use lib.ListN.{length, get_or, take, drop, length-append, length-drop, drop_of_length-le}
-use lib.Seq.{drop-cons, take-suc, take_all, length-take-le, paste}
+use lib.Seq.{drop-cons, take-suc, length-take-le, paste}
 use Rattle.std.proofs.lemmas.List.{get_or-take, get_or-drop}
 use Rattle.rows.specs.Rows.{over, row}
-use Rattle.cell.specs.Read.{corner, are_rows}
+use Rattle.cell.specs.Read.{Cell, corner, are_rows}
 use Rattle.cell.specs.Code.{gathered}
 use Rattle.rows.proofs.Lists.{flatten_snoc, over_more}
 
@@ -67,34 +67,33 @@ row_entry w xs n k d h = rw (get_or-take, get_or-drop)
 
 -- ---- the corners' rows, one after the other
 
-gathered_snoc : (w : ℕ) (c : List ℕ) (xs : List Float) (ps : List ℕ) (p : ℕ)
-    → gathered w c xs (ps ++ p ∷ []) ≡ gathered w c xs ps ++ corner w c xs p
-gathered_snoc w c xs ps p =
-    ap flatten (map-append (corner w c xs) ps (p ∷ [])) ∙ flatten_snoc (map (corner w c xs) ps) (corner w c xs p)
+gathered_snoc : (w : ℕ) (k : Cell) (ps : List ℕ) (p : ℕ) → gathered w k (ps ++ p ∷ []) ≡ gathered w k ps ++ corner w k.conn k.coords p
+gathered_snoc w k ps p =
+    let at = corner w k.conn k.coords in ap flatten (map-append at ps (p ∷ [])) ∙ flatten_snoc (map at ps) (at p)
 
 -- the first j corners' rows are written
-pub record Filling (w : ℕ) (c : List ℕ) (xs : List Float) (ps : List ℕ) (out₀ out : List Float) (j : ℕ) : Type 0 where
+pub record Filling (w : ℕ) (k : Cell) (ps : List ℕ) (out₀ out : List Float) (j : ℕ) : Type 0 where
   pub within : j ≤ length ps
-  pub filled : out ≡ over (gathered w c xs (take j ps)) out₀
-  pub size : length (gathered w c xs (take j ps)) ≡ w * j
+  pub filled : out ≡ over (gathered w k (take j ps)) out₀
+  pub size : length (gathered w k (take j ps)) ≡ w * j
   pub same : length out ≡ length out₀
 
-module _ (w : ℕ) (c : List ℕ) (xs : List Float) (ps : List ℕ) (out₀ : List Float) where
-  pub filling_start : Filling w c xs ps out₀ out₀ 0
+module _ (w : ℕ) (k : Cell) (ps : List ℕ) (out₀ : List Float) where
+  pub filling_start : Filling w k ps out₀ out₀ 0
   unfolding flatten
   filling_start = record { within = omega arith; filled = refl; size = sym (mul-zero w); same = refl }
 
-  pub filling_step : (out : List Float) (j : ℕ) → Filling w c xs ps out₀ out j → (n : ℕ) (out' : List Float) → j < length ps
-      → n ≡ get_or c (get_or ps j 0) 0 → n < length xs / w → out' ≡ paste out (w * j) (row w xs n) w → length out' ≡ length out
-      → Filling w c xs ps out₀ out' (j + 1)
-  filling_step out j f n out' h e k p q =
-      let g = gathered w c xs (take j ps) in
-      let s = row w xs n in
-      let y : s ≡ corner w c xs (get_or ps j 0) = ap (row w xs) e in
-      let z : gathered w c xs (take (j + 1) ps) ≡ g ++ s
-      = ap (λ i. gathered w c xs (take i ps)) (add-one j) ∙ ap (gathered w c xs) (take-suc ps j 0 h)
-      ∙ gathered_snoc w c xs (take j ps) (get_or ps j 0) ∙ ap (λ l. g ++ l) (sym y) in
-      let l : length s ≡ w = row_length w xs n k in
+  pub filling_step : (out : List Float) (j : ℕ) → Filling w k ps out₀ out j → (n : ℕ) (out' : List Float) → j < length ps
+      → n ≡ get_or k.conn (get_or ps j 0) 0 → n < length k.coords / w → out' ≡ paste out (w * j) (row w k.coords n) w
+      → length out' ≡ length out → Filling w k ps out₀ out' (j + 1)
+  filling_step out j f n out' h e b p q =
+      let g = gathered w k (take j ps) in
+      let s = row w k.coords n in
+      let y : s ≡ corner w k.conn k.coords (get_or ps j 0) = ap (row w k.coords) e in
+      let z : gathered w k (take (j + 1) ps) ≡ g ++ s
+      = ap (λ i. gathered w k (take i ps)) (add-one j) ∙ ap (gathered w k) (take-suc ps j 0 h)
+      ∙ gathered_snoc w k (take j ps) (get_or ps j 0) ∙ ap (λ l. g ++ l) (sym y) in
+      let l : length s ≡ w = row_length w k.coords n b in
       let m : w * (j + 1) ≡ w * j + w = ap (λ i. w * i) (add-one j) ∙ mul-suc w j in
       record {
         within = omega arith;
@@ -103,6 +102,3 @@ module _ (w : ℕ) (c : List ℕ) (xs : List Float) (ps : List ℕ) (out₀ : Li
         size = ap length z ∙ length-append g s ∙ omega (arith, f.size);
         same = q ∙ f.same;
       }
-
-  pub filling_end : (out : List Float) (j : ℕ) → Filling w c xs ps out₀ out j → length ps ≤ j → out ≡ over (gathered w c xs ps) out₀
-  filling_end out j f h = f.filled ∙ ap (λ l. over (gathered w c xs l) out₀) (take_all j ps h)

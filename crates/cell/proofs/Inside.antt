@@ -1,16 +1,14 @@
 -- The positions of a cell's faces are positions of its connectivity, and those of a fixed type its corners. Assumes nothing.
-use mathlib.Core.Path.{◌≡◌}
 use mathlib.Core.List.{List, [], ◌∷◌, flatten}
 use mathlib.Core.Bool.{Bool, true, false, cond, ◌&&◌}
 use Prim.Native.Nat.{ℕ, suc, ◌+◌, ◌≤◌, ◌<◌}
 use native.Mathlib.Omega.{arith}
-use borrow.Author.Tests.{eqb-true}
 use lib.Dec.{T, eqb, ltb, ltb→lt}
 use lib.Ieee.Fits.{and_l, and_r}
 use Rattle.std.specs.List.{All}
 use Rattle.std.proofs.lemmas.List.Elements.{All-nil, All-cons, All-head, All-tail, All-append, All-weaker}
 use lib.ListN.{length}
-use Rattle.cell.specs.Types.{allow, space_nodes, space_corners, shape_of}
+use Rattle.cell.specs.Types.{space_corners, shape_of}
 use Rattle.cell.specs.Faces.{Face, tet, wedge, hex, separator, onto, stretches, kept, faces_of}
 use Rattle.cell.specs.Code.{Below}
 use Rattle.cell.specs.declared.types.SpaceType.{SpaceType}
@@ -71,16 +69,6 @@ among_corners Wedge15 c = decided 6 (flatten wedge) tt
 among_corners Phed c =
     each_flat (length c) (kept (stretches 0 c)) (each_kept (length c) (stretches 0 c) (each_stretches (length c) 0 c (omega arith)))
 
-corners_few : (k : SpaceType) (n : ℕ) → allow (space_nodes k) n ≡ true → space_corners k n ≤ n
-corners_few Tet4 n e = omega (arith, eqb-true n 4 e)
-corners_few Tet10 n e = omega (arith, eqb-true n 10 e)
-corners_few Hex8 n e = omega (arith, eqb-true n 8 e)
-corners_few Hex21 n e = omega (arith, eqb-true n 21 e)
-corners_few Wedge6 n e = omega (arith, eqb-true n 6 e)
-corners_few Wedge15 n e = omega (arith, eqb-true n 15 e)
-corners_few Phed n e = omega arith
-
-pub inside : (k : SpaceType) (c : List ℕ) → allow (space_nodes k) (length c) ≡ true → Below (length c) (flatten (faces_of (shape_of k) c))
-inside k c e =
-    let h = corners_few k (length c) e in
+pub inside : (k : SpaceType) (c : List ℕ) → space_corners k (length c) ≤ length c → Below (length c) (flatten (faces_of (shape_of k) c))
+inside k c h =
     All-weaker (λ p. p < space_corners k (length c)) (λ p. p < length c) (λ p q. omega arith) (flatten (faces_of (shape_of k) c)) (among_corners k c)

@@ -37,9 +37,9 @@ impl Cell<'_> {
     pub fn test_in_space(&self) -> Result<usize, Refusal>
         ensures { Tested (space_cell (cell_of self.now)) result }
     {
-        let k = SpaceType::try_from(self.cell_type)?;
-        let rows = self.rows::<3>(k.nodes())?;
-        test_faces(k.shape(), self.conn, rows)
+        let kind = SpaceType::try_from(self.cell_type)?;
+        let rows = self.rows::<3>(kind.nodes())?;
+        self.test_faces(kind.shape(), rows)
     }
 
     // The corners' coordinates of an accepted cell in space, written over the start of `out` face by face, and where
@@ -51,18 +51,18 @@ impl Cell<'_> {
         ensures { Copied (polygons_of (space_cell (cell_of self.now))) result
             out.old out.new face_ends.old face_ends.new }
     {
-        let k = SpaceType::try_from(self.cell_type).unwrap();
-        copy_faces(k.shape(), self.conn, self.coords, out, face_ends)
+        let kind = SpaceType::try_from(self.cell_type).unwrap();
+        self.copy_faces(kind.shape(), out, face_ends)
     }
 
     // Refusals 1 to 4 of a cell in the plane, or how many corners it has. Writes nothing.
     pub fn test_in_plane(&self) -> Result<usize, Refusal>
         ensures { Tested (plane_cell (cell_of self.now)) result }
     {
-        let k = PlaneType::try_from(self.cell_type)?;
-        let rows = self.rows::<2>(k.nodes())?;
-        let n = k.corners(self.conn.len());
-        test_corners(self.conn, &POSITIONS[..n], rows)
+        let kind = PlaneType::try_from(self.cell_type)?;
+        let rows = self.rows::<2>(kind.nodes())?;
+        let n = kind.corners(self.conn.len());
+        self.test_corners(&POSITIONS[..n], rows)
     }
 
     // The corners' coordinates of an accepted cell in the plane, written over the start of `out`.
@@ -71,9 +71,9 @@ impl Cell<'_> {
             × (2 * corners_of (plane_cell (cell_of self.now)) ≤ length out.old) }
         ensures { CopiedPolygon (polygons_of (plane_cell (cell_of self.now))) out.old out.new }
     {
-        let k = PlaneType::try_from(self.cell_type).unwrap();
-        let n = k.corners(self.conn.len());
-        copy_rows::<2>(self.conn, self.coords, &POSITIONS[..n], out)
+        let kind = PlaneType::try_from(self.cell_type).unwrap();
+        let n = kind.corners(self.conn.len());
+        self.copy_rows::<2>(&POSITIONS[..n], out)
     }
 
     // Refusals 2 and 3 of a type with so many nodes, or how many rows of W coordinates there are.
@@ -89,85 +89,92 @@ impl Cell<'_> {
         }
         Ok(self.coords.len() / W)
     }
-}
 
-// Refusal 4, or how many corners the faces of this shape have.
-fn test_faces(s: Shape, conn: &[u64], rows: usize) -> Result<usize, Refusal>
-    requires { Testable conn.now (faces_of s conn.now) }
-    ensures { outcome_of result ≡ corners_tested conn.now rows (flatten (faces_of s conn.now)) }
-{
-    match s {
-        Shape::Tet => test_corners(conn, TET.corners, rows),
-        Shape::Wedge => test_corners(conn, WEDGE.corners, rows),
-        Shape::Hex => test_corners(conn, HEX.corners, rows),
-        Shape::Phed => {
-            let mut corners = [0; 256];
-            let mut ends = [0; 85];
-            let kept = list_phed(conn, &mut corners, &mut ends);
-            test_corners(conn, &corners[..kept.corners], rows)
+    // Refusal 4, or how many corners the faces of this shape have.
+    fn test_faces(&self, shape: Shape, rows: usize) -> Result<usize, Refusal>
+        requires { Testable (cell_of self.now) (faces_of shape self.now.conn.now) }
+        ensures { outcome_of result ≡ corners_tested (cell_of self.now) rows
+            (flatten (faces_of shape self.now.conn.now)) }
+    {
+        match shape {
+            Shape::Tet => self.test_corners(TET.corners, rows),
+            Shape::Wedge => self.test_corners(WEDGE.corners, rows),
+            Shape::Hex => self.test_corners(HEX.corners, rows),
+            Shape::Phed => {
+                let mut corners = [0; 256];
+                let mut ends = [0; 85];
+                let kept = list_phed(self.conn, &mut corners, &mut ends);
+                self.test_corners(&corners[..kept.corners], rows)
+            }
         }
     }
-}
 
-// Refusal 4, or how many corners these are.
-fn test_corners(conn: &[u64], corners: &[u8], rows: usize) -> Result<usize, Refusal>
-    requires { Below (length conn.now) corners.now }
-    ensures { outcome_of result ≡ corners_tested conn.now rows corners.now }
-{
-    for p in corners {
-        if rows <= node(conn, *p) {
-            return Err(Refusal::NoSuchRow);
+    // Refusal 4, or how many corners these are.
+    fn test_corners(&self, corners: &[u8], rows: usize) -> Result<usize, Refusal>
+        requires { Below (length self.now.conn.now) corners.now }
+        ensures { outcome_of result ≡ corners_tested (cell_of self.now) rows corners.now }
+    {
+        for p in corners {
+            if rows <= self.node(*p) {
+                return Err(Refusal::NoSuchRow);
+            }
+        }
+        Ok(corners.len())
+    }
+
+    // The corners of the faces of this shape, all of which are rows.
+    fn copy_faces(&self, shape: Shape, out: &mut [f64], face_ends: &mut [usize]) -> Kept
+        requires { CopiesFaces (cell_of self.now) (faces_of shape self.now.conn.now) out.old face_ends.old }
+        ensures { Copied (polygons 3 self.now.conn.now self.now.coords.now (faces_of shape self.now.conn.now)) result
+            out.old out.new face_ends.old face_ends.new }
+    {
+        match shape {
+            Shape::Tet => self.put_faces(TET, out, face_ends),
+            Shape::Wedge => self.put_faces(WEDGE, out, face_ends),
+            Shape::Hex => self.put_faces(HEX, out, face_ends),
+            Shape::Phed => {
+                let mut corners = [0; 256];
+                let mut ends = [0; 85];
+                let kept = list_phed(self.conn, &mut corners, &mut ends);
+                let faces = FaceList {
+                    corners: &corners[..kept.corners],
+                    ends: &ends[..kept.faces],
+                };
+                self.put_faces(faces, out, face_ends)
+            }
         }
     }
-    Ok(corners.len())
-}
 
-// The corners of a cell of this shape, all of which are rows.
-fn copy_faces(
-    s: Shape,
-    conn: &[u64],
-    coords: &[f64],
-    out: &mut [f64],
-    face_ends: &mut [usize],
-) -> Kept
-    requires { CopiesFaces conn.now coords.now (faces_of s conn.now) out.old face_ends.old }
-    ensures { Copied (polygons 3 conn.now coords.now (faces_of s conn.now)) result
-        out.old out.new face_ends.old face_ends.new }
-{
-    match s {
-        Shape::Tet => put_faces(TET, conn, coords, out, face_ends),
-        Shape::Wedge => put_faces(WEDGE, conn, coords, out, face_ends),
-        Shape::Hex => put_faces(HEX, conn, coords, out, face_ends),
-        Shape::Phed => {
-            let mut corners = [0; 256];
-            let mut ends = [0; 85];
-            let kept = list_phed(conn, &mut corners, &mut ends);
-            let faces = FaceList {
-                corners: &corners[..kept.corners],
-                ends: &ends[..kept.faces],
-            };
-            put_faces(faces, conn, coords, out, face_ends)
+    // These faces.
+    fn put_faces(&self, faces: FaceList, out: &mut [f64], face_ends: &mut [usize]) -> Kept
+        requires { PutsFaces (cell_of self.now) faces out.old face_ends.old }
+        ensures { PutFaces (cell_of self.now) faces.entry result
+            out.old out.new face_ends.old face_ends.new }
+    {
+        self.copy_rows::<3>(faces.corners, out);
+        face_ends[..faces.ends.len()].copy_from_slice(faces.ends);
+        Kept {
+            corners: faces.corners.len(),
+            faces: faces.ends.len(),
         }
     }
-}
 
-// These faces.
-fn put_faces(
-    faces: FaceList,
-    conn: &[u64],
-    coords: &[f64],
-    out: &mut [f64],
-    face_ends: &mut [usize],
-) -> Kept
-    requires { PutsFaces faces conn.now coords.now out.old face_ends.old }
-    ensures { PutFaces faces.entry conn.now coords.now result
-        out.old out.new face_ends.old face_ends.new }
-{
-    copy_rows::<3>(conn, coords, faces.corners, out);
-    face_ends[..faces.ends.len()].copy_from_slice(faces.ends);
-    Kept {
-        corners: faces.corners.len(),
-        faces: faces.ends.len(),
+    // The corners' rows, one after the other.
+    fn copy_rows<const W: usize>(&self, corners: &[u8], out: &mut [f64])
+        requires { Copies W (cell_of self.now) corners.now out.old }
+        ensures { out.new ≡ over (gathered W (cell_of self.now) corners.now) out.old }
+    {
+        for (j, p) in corners.iter().enumerate() {
+            copy_row::<W>(self.coords, self.node(*p), out, j);
+        }
+    }
+
+    // The node at a position of the connectivity.
+    fn node(&self, p: u8) -> usize
+        requires { p < length self.now.conn.now }
+        ensures { result ≡ get_or self.now.conn.now p 0 }
+    {
+        self.conn[p as usize] as usize
     }
 }
 
@@ -245,24 +252,6 @@ fn list_phed(conn: &[u64], corners: &mut [u8; 256], ends: &mut [usize; 85]) -> K
         corners: n,
         faces: f,
     }
-}
-
-// The corners' rows, one after the other.
-fn copy_rows<const W: usize>(conn: &[u64], coords: &[f64], corners: &[u8], out: &mut [f64])
-    requires { Copies W conn.now coords.now corners.now out.old }
-    ensures { out.new ≡ over (gathered W conn.now coords.now corners.now) out.old }
-{
-    for (j, p) in corners.iter().enumerate() {
-        copy_row::<W>(coords, node(conn, *p), out, j);
-    }
-}
-
-// The node at a position of the connectivity.
-fn node(conn: &[u64], p: u8) -> usize
-    requires { p < length conn.now }
-    ensures { result ≡ get_or conn.now p 0 }
-{
-    conn[p as usize] as usize
 }
 
 // Row i of `from` written over row j of `out`.

@@ -83,33 +83,18 @@ impl SpaceType {
 
     pub const PHED: u8 = 18;
 
-    // The node counts; of a PHED the most entries, separators counted.
-    pub const TET4_NODES: usize = 4;
-
-    pub const TET10_NODES: usize = 10;
-
-    pub const HEX8_NODES: usize = 8;
-
-    pub const HEX21_NODES: usize = 21;
-
-    pub const WEDGE6_NODES: usize = 6;
-
-    pub const WEDGE15_NODES: usize = 15;
-
-    pub const PHED_NODES: usize = 256;
-
-    // Its node count.
+    // Its node count; of a PHED the most entries, separators counted.
     pub fn nodes(self) -> Nodes
         ensures { result ≡ space_nodes self }
     {
         match self {
-            SpaceType::Tet4 => Nodes::Exactly(SpaceType::TET4_NODES),
-            SpaceType::Tet10 => Nodes::Exactly(SpaceType::TET10_NODES),
-            SpaceType::Hex8 => Nodes::Exactly(SpaceType::HEX8_NODES),
-            SpaceType::Hex21 => Nodes::Exactly(SpaceType::HEX21_NODES),
-            SpaceType::Wedge6 => Nodes::Exactly(SpaceType::WEDGE6_NODES),
-            SpaceType::Wedge15 => Nodes::Exactly(SpaceType::WEDGE15_NODES),
-            SpaceType::Phed => Nodes::AtMost(SpaceType::PHED_NODES),
+            SpaceType::Tet4 => Nodes::Exactly(4),
+            SpaceType::Tet10 => Nodes::Exactly(10),
+            SpaceType::Hex8 => Nodes::Exactly(8),
+            SpaceType::Hex21 => Nodes::Exactly(21),
+            SpaceType::Wedge6 => Nodes::Exactly(6),
+            SpaceType::Wedge15 => Nodes::Exactly(15),
+            SpaceType::Phed => Nodes::AtMost(256),
         }
     }
 
@@ -175,38 +160,18 @@ impl PlaneType {
 
     pub const PGON: u8 = 11;
 
-    // The corner counts.
-    pub const TRI_CORNERS: usize = 3;
-
-    pub const QUAD_CORNERS: usize = 4;
-
-    // The node counts; of a PGON the most.
-    pub const TRI3_NODES: usize = 3;
-
-    pub const TRI6_NODES: usize = 6;
-
-    pub const TRI7_NODES: usize = 7;
-
-    pub const QUAD4_NODES: usize = 4;
-
-    pub const QUAD8_NODES: usize = 8;
-
-    pub const QUAD9_NODES: usize = 9;
-
-    pub const PGON_NODES: usize = 256;
-
-    // Its node count.
+    // Its node count; of a PGON the most.
     pub fn nodes(self) -> Nodes
         ensures { result ≡ plane_nodes self }
     {
         match self {
-            PlaneType::Tri3 => Nodes::Exactly(PlaneType::TRI3_NODES),
-            PlaneType::Tri6 => Nodes::Exactly(PlaneType::TRI6_NODES),
-            PlaneType::Tri7 => Nodes::Exactly(PlaneType::TRI7_NODES),
-            PlaneType::Quad4 => Nodes::Exactly(PlaneType::QUAD4_NODES),
-            PlaneType::Quad8 => Nodes::Exactly(PlaneType::QUAD8_NODES),
-            PlaneType::Quad9 => Nodes::Exactly(PlaneType::QUAD9_NODES),
-            PlaneType::Pgon => Nodes::AtMost(PlaneType::PGON_NODES),
+            PlaneType::Tri3 => Nodes::Exactly(3),
+            PlaneType::Tri6 => Nodes::Exactly(6),
+            PlaneType::Tri7 => Nodes::Exactly(7),
+            PlaneType::Quad4 => Nodes::Exactly(4),
+            PlaneType::Quad8 => Nodes::Exactly(8),
+            PlaneType::Quad9 => Nodes::Exactly(9),
+            PlaneType::Pgon => Nodes::AtMost(256),
         }
     }
 
@@ -215,8 +180,8 @@ impl PlaneType {
         ensures { result ≡ plane_corners self n }
     {
         match self {
-            PlaneType::Tri3 | PlaneType::Tri6 | PlaneType::Tri7 => PlaneType::TRI_CORNERS,
-            PlaneType::Quad4 | PlaneType::Quad8 | PlaneType::Quad9 => PlaneType::QUAD_CORNERS,
+            PlaneType::Tri3 | PlaneType::Tri6 | PlaneType::Tri7 => 3,
+            PlaneType::Quad4 | PlaneType::Quad8 | PlaneType::Quad9 => 4,
             PlaneType::Pgon => n,
         }
     }

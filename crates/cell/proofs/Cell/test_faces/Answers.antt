@@ -1,6 +1,6 @@
--- `test_faces` meets its contract: the tables are the definition's faces in a row. Assumes nothing.
+-- `Cell::test_faces` meets its contract: the tables are the definition's faces in a row. Assumes nothing.
 use mathlib.Core.List.{flatten}
-use Rattle.cell.proofs.test_faces.Goals as goal
+use Rattle.cell.proofs.Cell.test_faces.Goals as goal
 
 pub test_corners-requires : goal.test_corners-requires
 unfolding flatten
