@@ -4,7 +4,8 @@
 ghost use Rattle.std.specs.Prelude.{◌≡◌, ◌<◌, length};
 ghost use Rattle.std.specs.Float.{binary64};
 ghost use Rattle.root.specs.Root.{sqrt_of};
-ghost use Rattle.vector.specs.Tolerance.{told_tolerance, tolerance_of, tolerance_told};
+ghost use Rattle.rows.specs.Refusals.{outcome_of};
+ghost use Rattle.vector.specs.Tolerance.{told_tolerance, tolerance_of};
 ghost use Rattle.cell.specs.Read.{cell};
 ghost use Rattle.stitch.specs.Entry.{Gave, Small, buffers, lengths, section_told, stitch_alone};
 ghost use Rattle.cuts.specs.Cuts.{through};
@@ -16,10 +17,16 @@ ghost use Rattle.plane_cell.specs.PlaneCell.{plane_cell_cut};
 ghost use Rattle.gather.specs.Gather.{gather_cut};
 ghost use Rattle.cicelybeam.specs.Exports.{told_in, told_line_in, told_tolerance_in};
 
+use cell::Cell;
+use clip::Found;
+use cuts::{Through, Way};
+use rows::Refusal;
+use stitch::Stitched;
+
 // struct cicelybeam_section: refusal 0, how many points, nodes and loops were written, and the four counts of edges; or the
 // number of a refusal, and 0 for all else. C's `open` is `opened` here, since `open` is a reserved word.
 #[repr(C)]
-#[derive(Clone, Copy)]
+#[derive(Clone, Copy, Default)]
 pub struct Section {
     pub refusal: u32,
     pub points: u32,
@@ -33,7 +40,7 @@ pub struct Section {
 
 // struct cicelybeam_line: refusal 0 and how many segments were written, or the number of a refusal and 0.
 #[repr(C)]
-#[derive(Clone, Copy)]
+#[derive(Clone, Copy, Default)]
 pub struct Line {
     pub refusal: u32,
     pub segments: u32,
@@ -41,7 +48,7 @@ pub struct Line {
 
 // struct cicelybeam_tolerance: refusal 0 and the tolerance, or the number of a refusal and 0.
 #[repr(C)]
-#[derive(Clone, Copy)]
+#[derive(Clone, Copy, Default)]
 pub struct Tolerance {
     pub refusal: u32,
     pub value: f64,
@@ -65,9 +72,16 @@ pub fn cicelybeam_plane(
         (told_in result) (buffers numbers.old nodes.old ends.old)
         (buffers numbers.new nodes.new ends.new) }
 {
-    told_section(plane_cut::section_cell_by_plane(
-        cell_type, conn, coords, origin, normal, tol, numbers, nodes, ends,
-    ))
+    let cell = Cell {
+        cell_type,
+        conn,
+        coords,
+    };
+    let through = Through {
+        origin,
+        vector: normal,
+    };
+    told_section(plane_cut::section_cell_by_plane(&cell, &through, tol, numbers, nodes, ends))
 }
 
 // The segments of a space cell on a plane, before they are stitched.
@@ -85,7 +99,16 @@ pub fn cicelybeam_gather(
         (through origin.now normal.now) tol (length numbers.old))
         (told_line_in result) numbers.old numbers.new }
 {
-    told_line(gather::gather_cell_by_plane(cell_type, conn, coords, origin, normal, tol, numbers))
+    let cell = Cell {
+        cell_type,
+        conn,
+        coords,
+    };
+    let through = Through {
+        origin,
+        vector: normal,
+    };
+    told_line(gather::gather_cell_by_plane(&cell, &through, tol, numbers))
 }
 
 // A space cell cut by a line.
@@ -103,7 +126,16 @@ pub fn cicelybeam_line_in_space(
         (through origin.now direction.now) tol (length numbers.old))
         (told_line_in result) numbers.old numbers.new }
 {
-    told_line(line_cut::slice_line_3d(cell_type, conn, coords, origin, direction, tol, numbers))
+    let cell = Cell {
+        cell_type,
+        conn,
+        coords,
+    };
+    let through = Through {
+        origin,
+        vector: direction,
+    };
+    told_line(line_cut::slice_line_3d(&cell, &through, tol, numbers))
 }
 
 // A plane cell cut by a line that its normal gives.
@@ -121,7 +153,16 @@ pub fn cicelybeam_plane_cell_by_normal(
         (through origin.now normal.now) tol (length numbers.old))
         (told_line_in result) numbers.old numbers.new }
 {
-    told_line(plane_cell::slice_2d(cell_type, conn, coords, origin, normal, tol, numbers))
+    let cell = Cell {
+        cell_type,
+        conn,
+        coords,
+    };
+    let through = Through {
+        origin,
+        vector: normal,
+    };
+    told_line(plane_cell::slice_2d(Way::Normal, &cell, &through, tol, numbers))
 }
 
 // A plane cell cut by a line that its direction gives.
@@ -139,7 +180,16 @@ pub fn cicelybeam_plane_cell_by_direction(
         (through origin.now direction.now) tol (length numbers.old))
         (told_line_in result) numbers.old numbers.new }
 {
-    told_line(plane_cell::slice_line(cell_type, conn, coords, origin, direction, tol, numbers))
+    let cell = Cell {
+        cell_type,
+        conn,
+        coords,
+    };
+    let through = Through {
+        origin,
+        vector: direction,
+    };
+    told_line(plane_cell::slice_2d(Way::Direction, &cell, &through, tol, numbers))
 }
 
 // Stitching alone.
@@ -163,14 +213,14 @@ pub fn cicelybeam_stitch(
 pub fn cicelybeam_tolerance_in_space(coords: &[f64]) -> Tolerance
     ensures { told_tolerance_in result ≡ told_tolerance (tolerance_of 3 coords.now) }
 {
-    told_tolerance(vector::tolerance_in_space(coords))
+    told_tolerance(vector::tolerance::<3>(coords))
 }
 
 // The tolerance of a mesh in the plane.
 pub fn cicelybeam_tolerance_in_plane(coords: &[f64]) -> Tolerance
     ensures { told_tolerance_in result ≡ told_tolerance (tolerance_of 2 coords.now) }
 {
-    told_tolerance(vector::tolerance_in_plane(coords))
+    told_tolerance(vector::tolerance::<2>(coords))
 }
 
 // The square root as IEEE 754 has it.
@@ -181,80 +231,62 @@ pub fn cicelybeam_sqrt(x: f64) -> f64
 }
 
 // An answer as a C struct.
-fn told_section(answer: stitch::alone::Section) -> Section
+fn told_section(answer: Result<Stitched, Refusal>) -> Section
     requires { Small (section_told answer) }
     ensures { told_in result ≡ section_told answer }
 {
     match answer {
-        stitch::alone::Section::Refused(k) => Section {
-            refusal: k as u32,
-            points: 0,
-            nodes: 0,
-            loops: 0,
-            listed: 0,
-            in_loops: 0,
-            flat: 0,
-            opened: 0,
+        Ok(stitched) => told_stitched(stitched),
+        Err(refusal) => Section {
+            refusal: u32::from(refusal),
+            ..Section::default()
         },
-        stitch::alone::Section::Cut(s) => told_stitched(s.stitched),
     }
 }
 
 // A section's numbers in 32 bits.
-fn told_stitched(s: stitch::Stitched) -> Section
+fn told_stitched(s: Stitched) -> Section
     requires { Small (record { refusal = 0; answer = s }) }
     ensures { told_in result ≡ record { refusal = 0; answer = s } }
 {
-    let counts = s.counts;
     Section {
         refusal: 0,
-        points: narrow(s.points),
-        nodes: narrow(s.nodes),
-        loops: narrow(s.loops),
-        listed: narrow(counts.listed),
-        in_loops: narrow(counts.in_loops),
-        flat: narrow(counts.flat),
-        opened: narrow(counts.opened),
+        points: s.points as u32,
+        nodes: s.nodes as u32,
+        loops: s.loops as u32,
+        listed: s.counts.listed as u32,
+        in_loops: s.counts.in_loops as u32,
+        flat: s.counts.flat as u32,
+        opened: s.counts.opened as u32,
     }
 }
 
 // A line section as a C struct.
-fn told_line(answer: cuts::Line) -> Line
+fn told_line(answer: Result<Found, Refusal>) -> Line
     requires { (line_told answer).segments < 4294967296 }
     ensures { told_line_in result ≡ line_told answer }
 {
     match answer {
-        cuts::Line::Refused(k) => Line {
-            refusal: k as u32,
-            segments: 0,
-        },
-        cuts::Line::Cut(found) => Line {
+        Ok(found) => Line {
             refusal: 0,
-            segments: narrow(found.segments),
+            segments: found.segments as u32,
+        },
+        Err(refusal) => Line {
+            refusal: u32::from(refusal),
+            ..Line::default()
         },
     }
 }
 
 // A tolerance as a C struct.
-fn told_tolerance(answer: vector::Tolerance) -> Tolerance
-    ensures { told_tolerance_in result ≡ tolerance_told answer }
+fn told_tolerance(answer: Result<f64, Refusal>) -> Tolerance
+    ensures { told_tolerance_in result ≡ told_tolerance (outcome_of answer) }
 {
     match answer {
-        vector::Tolerance::Refused(k) => Tolerance {
-            refusal: k as u32,
-            value: 0.0,
-        },
-        vector::Tolerance::Of(x) => Tolerance {
-            refusal: 0,
-            value: x,
+        Ok(value) => Tolerance { refusal: 0, value },
+        Err(refusal) => Tolerance {
+            refusal: u32::from(refusal),
+            ..Tolerance::default()
         },
     }
-}
-
-// A small number in 32 bits.
-fn narrow(x: usize) -> u32
-    requires { x < 4294967296 }
-    ensures { result ≡ x }
-{
-    x as u32
 }

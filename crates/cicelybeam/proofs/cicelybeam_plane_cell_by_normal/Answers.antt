@@ -5,7 +5,7 @@ use Rattle.cell.specs.Read.{cell}
 use Rattle.cuts.specs.Cuts.{through}
 use Rattle.cuts.specs.declared.Way.TheVariants.{Normal}
 use Rattle.plane_cell.proofs.Claims.{plane_cell_sound}
-use Rattle.cicelybeam.proofs.Exports.{line_small, line_retold}
+use Rattle.cicelybeam.proofs.Exports.{line_small}
 use Rattle.cicelybeam.proofs.cicelybeam_plane_cell_by_normal.Goals as goal
 
 pub told_line-requires : goal.told_line-requires
@@ -14,7 +14,3 @@ told_line-requires c =
     line_small c.slice_2d.ensures 384
     (plane_cell_sound Normal (cell g.cell_type g.conn.now g.coords.now) (through g.origin.now g.normal.now) g.tol (length g.numbers.now))
     (omega arith)
-
-pub returns : goal.returns
-returns c =
-    line_retold c.slice_2d.ensures c.told_line.ensures
