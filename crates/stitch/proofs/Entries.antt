@@ -2,6 +2,7 @@
 use mathlib.Core.Path.{◌≡◌, refl, sym, ap, ◌∙◌, subst}
 use mathlib.Core.List.{List, flatten}
 use mathlib.Core.Bool.{true, false, ◌&&◌}
+use mathlib.Core.Logic.{◌⊎◌, inl, inr}
 use Prim.Native.Nat.{ℕ, ◌*◌, ◌/◌, ◌%◌, ◌≤◌, ◌<◌}
 use native.Mathlib.Omega.{arith}
 use borrow.Author.Tests.{eq-eqb, ne_eqb, le-leb, lt-leb}
@@ -63,19 +64,12 @@ module _ (xs : List Float) (tol : Float) (l : Lengths) where
   abbrev s : ℕ
   s = length xs / 4
 
-  pub not_fours : (length xs % 4 ≡ 0 → ⊥) → stitch_alone xs tol l ≡ refused 8
-  not_fours h = simp (ne_eqb _ _ h)
+  pub unsuited : (length xs % 4 ≡ 0 → ⊥) ⊎ ((length xs % 4 ≡ 0) × (384 < s)) → stitch_alone xs tol l ≡ refused 8
+  unsuited (inl h) = simp (ne_eqb _ _ h)
+  unsuited (inr h) = simp (eq-eqb _ _ h.0, lt-leb _ _ h.1)
 
-  module _ (e : length xs % 4 ≡ 0) where
-    pub too_many : 384 < s → stitch_alone xs tol l ≡ refused 8
-    too_many h = simp (eq-eqb _ _ e, lt-leb _ _ h)
-
-    module _ (h : s ≤ 384) where
-      pub crowded : room (4 * s) s (s / 3) l ≡ false → stitch_alone xs tol l ≡ refused 7
-      crowded r = simp (eq-eqb _ _ e, le-leb _ _ h, r)
-
-      pub alone : room (4 * s) s (s / 3) l ≡ true → stitch_alone xs tol l ≡ found (stitched tol (segs 2 s xs))
-      alone r = simp (eq-eqb _ _ e, le-leb _ _ h, r)
+  pub crowded : length xs % 4 ≡ 0 → s ≤ 384 → room (4 * s) s (s / 3) l ≡ false → stitch_alone xs tol l ≡ refused 7
+  crowded e h r = simp (eq-eqb _ _ e, le-leb _ _ h, r)
 
 -- ---- what an entry can answer, and what the caller reads
 

@@ -1,12 +1,12 @@
 -- The turn at an edge: what ending its walk needs, and what the turn leaves. Assumes nothing.
-use mathlib.Core.Path.{◌≡◌, refl, ap, sym, ◌∙◌}
+use mathlib.Core.Path.{◌≡◌, refl, sym}
 use mathlib.Core.List.{List, [], ◌∷◌}
 use mathlib.Core.Bool.{Bool, true, false}
 use Prim.Native.Nat.{ℕ, zero, suc, ◌+◌, ◌≤◌, ◌<◌}
 use native.Mathlib.Nat.{not-suc-le-zero}
 use native.Mathlib.Omega.{arith}
 use lib.Dec.{eqb}
-use lib.ListN.{length, get_or, set, take, length-take}
+use lib.ListN.{length, get_or, set, take}
 use Rattle.std.specs.Prelude.{Option, None, Some}
 use Rattle.vector.specs.Vector.{Vector}
 use Rattle.weld.specs.declared.Edge.{Edge}
@@ -106,12 +106,6 @@ module _ (ps : List Vector) {es : List Edge} {us : List Bool} {tally : Tally} {w
 
   module _ {nodes-walked : ℕ} {closed : Bool} {us' : List Bool} {buffer : List ℕ}
       (went : Went w nodes-walked closed us' buffer) where
-    pub walked_fits : nodes-walked ≤ length buffer
-    walked_fits = let a = ap length went.nodes_are in let b = length-take nodes-walked buffer in let c = went.node_count in omega arith
-
-    pub walked_count : nodes-walked ≡ length (take nodes-walked buffer)
-    walked_count = went.node_count ∙ sym (ap length went.nodes_are)
-
     pub finishing : (n : ℕ) → Within es n → Finishing n (take nodes-walked buffer) closed tally nodes ends
     finishing n within =
         let l = left in
@@ -133,7 +127,3 @@ module _ (ps : List Vector) {es : List Edge} {us : List Bool} {tally : Tally} {w
     turn_free rule r nodes' ends' f =
         let e = walk_edges es w sound in
         rw free (went.used_are, rw (← e) (rw (went.nodes_are, went.closed_is) at f))
-
-pub turn_used : (ps : List Vector) (es : List Edge) (rule : Rule) (k : ℕ) (us : List Bool) (tally : Tally) (nodes ends : List ℕ)
-    → get_or us k true ≡ true → Turn ps es rule k (get_or us k true) us tally nodes ends us tally nodes ends
-turn_used ps es rule k us tally nodes ends e = rw e (refl, refl, refl, refl)

@@ -21,10 +21,7 @@ pub fn stitch_alone(
         (buffers numbers.new nodes.new ends.new) }
 {
     let s = segments.len() / 4;
-    if segments.len() % 4 != 0 {
-        return Err(Refusal::Segments);
-    }
-    if s > 384 {
+    if segments.len() % 4 != 0 || s > 384 {
         return Err(Refusal::Segments);
     }
     if !room(4 * s, s, s / 3, numbers.len(), nodes.len(), ends.len()) {

@@ -2,13 +2,13 @@
 use mathlib.Core.Path.{◌≡◌, refl, ap, sym, ◌∙◌}
 use mathlib.Core.List.{List, [], ◌∷◌}
 use mathlib.Core.Bool.{Bool, true, false, cond, not, ◌&&◌}
-use Prim.Native.Nat.{ℕ, suc, ◌+◌, ◌-◌, ◌≤◌, ◌<◌}
+use Prim.Native.Nat.{ℕ, suc, ◌+◌, ◌≤◌, ◌<◌}
 use native.Mathlib.Numerals.{add-one}
 use native.Mathlib.Omega.{arith}
 use lib.Ieee.{Float, lt}
 use lib.ListN.{length, get_or, drop, length-drop}
 use lib.Seq.{drop-cons, get_or-drop}
-use Rattle.std.specs.Prelude.{Option, None, Some, IfSome, unwrap_or}
+use Rattle.std.specs.Prelude.{Option, None, Some, IfSome}
 use Rattle.vector.specs.Vector.{Vector, diff, norm}
 use Rattle.weld.specs.declared.Edge.{Edge}
 use Rattle.walk.specs.declared.Arrival.{Arrival}
@@ -57,23 +57,11 @@ module _ (c : ℕ) (es : List Edge) (us : List Bool) (k j : ℕ) (left : Left c 
             (λ i g. ap (touches c) (get_or-drop j es i no_edge) ∙ none (j + i) (omega arith) (omega (arith, length-drop j es)));
       }
 
--- each edge that is found is a later one
 pub found_in : (n k : ℕ) (r : Option ℕ) → IfSome r (λ j. (k ≤ j) × (j < n)) → IfSome r (λ j. j < n)
 found_in n k None i = tt
 found_in n k (Some j) i = i.1
 
-pub fewer_left : (n k : ℕ) (r : Option ℕ) → k < n → IfSome r (λ j. (k + 1 ≤ j) × (j < n)) → n - unwrap_or r n < n - k
-fewer_left n k None h i = omega arith
-fewer_left n k (Some j) h i = omega (arith, i.0, i.1)
-
 -- ---- the straightest
-
--- a later edge takes over if its cosine is greater, and else the best stays
-pub better_later : (b : Best) (k : ℕ) (v : Float) → lt b.cosine v ≡ true → record { edge = k; cosine = v } ≡ better b k v
-better_later b k v e = rw e
-
-pub better_same : (b : Best) (k : ℕ) (v : Float) → lt b.cosine v ≡ false → b ≡ better b k v
-better_same b k v e = rw e
 
 pub straightest_step : (f : ℕ → Float) (b : Best) (k : ℕ) (v : Float) (l : List ℕ) → v ≡ f k
     → straightest f b.edge b.cosine (k ∷ l) ≡ straightest f (better b k v).edge (better b k v).cosine l

@@ -88,13 +88,15 @@ impl Graph<'_> {
         Some(self.straightest(used, arrival, first, second))
     }
 
-    // The first unused edge at current, from edge k on.
+    // The first unused edge at current, from edge k on. Not inlined, which keeps the code of its loop short.
+    #[inline(never)]
     fn first_available(&self, used: &[bool], current: u32, k: usize) -> Option<usize>
         requires { (length used.now ≡ length self.now.edges.now) × (current < self.now.n) }
         ensures { FirstFrom current self.now.edges.now used.now k result }
     {
+        let edges = self.edges;
         for j in k..self.past[current as usize] as usize {
-            if is_available(self.edges[j], current, used[j]) {
+            if is_available(edges[j], current, used[j]) {
                 return Some(j);
             }
         }
