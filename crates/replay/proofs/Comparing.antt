@@ -1,5 +1,6 @@
 -- A buffer compared with what is recorded, element by element, as the loops do it. Assumes nothing.
-use Rattle.std.proofs.Common.{◌≡◌, ℕ, zero, suc, ◌+◌, ◌<◌, ◌≤◌, false, ◌&&◌, eqb, leb, List, [], ◌∷◌, length, get_or, drop, sym, refl, ap, ◌∙◌, add-one, arith, drop_of_length-le, drop-cons, eq-eqb, ne_eqb}
+use Rattle.std.proofs.Common.{◌≡◌, ℕ, suc, ◌+◌, ◌<◌, false, ◌&&◌, eqb, leb, List, [], ◌∷◌, length, get_or, drop, sym, refl, ap, ◌∙◌, add-one, drop-cons, eq-eqb, ne_eqb}
+use Rattle.std.proofs.Math.Seq.{drop-length}
 use Prim.{⊥}
 use Rattle.replay.specs.Same.{same}
 
@@ -24,16 +25,5 @@ module _ {A : Type 0} (word : A → ℕ) (none : ℕ) (rs : List ℕ) where
         → same word none rs j (drop j xs) ≡ same word none rs (j + 1) (drop (j + 1) xs)
     same_step h k = same_at h ∙ simp (eq-eqb _ _ k) (ap (λ i. same word none rs i (drop i xs)) (sym (add-one j)))
 
-    pub same_end : length xs ≤ j → same word none rs j (drop j xs) ≡ leb (length rs) j
-    same_end h = ap (same word none rs j) (drop_of_length-le xs h) ∙ same_nil j
-
--- what is recorded at a place, whatever stands for none
-pub recorded_at : (rs : List ℕ) (i d e : ℕ) → i < length rs → get_or rs i d ≡ get_or rs i e
-recorded_at [] i d e h = let k : i < 0 = h in omega arith
-recorded_at (r ∷ rs) zero d e h = refl
-recorded_at (r ∷ rs) (suc i) d e h = recorded_at rs i d e (omega arith)
-
-pub none_beyond : (rs : List ℕ) (i d : ℕ) → length rs ≤ i → get_or rs i d ≡ d
-none_beyond [] i d h = refl
-none_beyond (r ∷ rs) zero d h = omega arith
-none_beyond (r ∷ rs) (suc i) d h = none_beyond rs i d (omega arith)
+  pub same_end : (xs : List A) → same word none rs (length xs) (drop (length xs) xs) ≡ leb (length rs) (length xs)
+  same_end xs = ap (same word none rs (length xs)) (drop-length xs) ∙ same_nil (length xs)

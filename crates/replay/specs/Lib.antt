@@ -1,2 +1,2 @@
-pub mod Code
+pub mod Entry
 pub mod Same

@@ -1,57 +1,63 @@
 // What was answered and written, compared with the words that are recorded of it.
-ghost use Rattle.std.specs.Prelude.{◌≡◌, slice_index_or};
+ghost use Rattle.std.specs.Prelude.{◌≡◌, ℕ};
 ghost use Rattle.replay.specs.Same.{no_index, no_number, number_word, same};
 
-// What stands in the lent buffers before an entry is called, and its words.
-pub const NO_NUMBER: f64 = -12345678.0;
+use std::num::f64_to_bits_with_nan;
 
-const NO_NUMBER_PATTERN: u64 = 0xc167_8c29_c000_0000;
+// What an entry writes to a buffer: an index or a number.
+pub trait Recorded: Copy {
+    ghost word: { Self → ℕ };
 
-pub const NO_INDEX: u32 = 0xdead_beef;
+    ghost NONE: { ℕ };
 
-const NO_INDEX_WORD: u64 = 0xdead_beef;
+    // What stands in a lent buffer before an entry is called.
+    const BLANK: Self;
 
-// Whether out begins with the recorded numbers and is as before beyond them. Both zeros are alike, and so is every NaN.
-pub fn same_numbers(recorded: &[u64], out: &[f64]) -> bool
-    ensures { result ≡ same number_word no_number recorded.now 0 out.now }
+    // Its word.
+    const NONE: u64;
+
+    // The word that is recorded of a value.
+    fn word(self) -> u64
+        ensures { result ≡ word self };
+}
+
+// Both zeros are alike, and so is every NaN.
+impl Recorded for f64 {
+    ghost word = { number_word };
+
+    ghost NONE = { no_number };
+
+    const BLANK: f64 = -12345678.0;
+
+    const NONE: u64 = f64::to_bits(-12345678.0);
+
+    fn word(self) -> u64 {
+        f64_to_bits_with_nan(self + 0.0)
+    }
+}
+
+impl Recorded for u32 {
+    ghost word = { λ n. n };
+
+    ghost NONE = { no_index };
+
+    const BLANK: u32 = 0xdead_beef;
+
+    const NONE: u64 = 0xdead_beef;
+
+    fn word(self) -> u64 {
+        u64::from(self)
+    }
+}
+
+// Whether out begins with what is recorded and is as before beyond it.
+pub fn same<T: Recorded>(recorded: &[u64], out: &[T]) -> bool
+    ensures { result ≡ same T.word T.NONE recorded.now 0 out.now }
 {
-    let mut i = 0;
-    while i < out.len() {
-        if crate::word::pattern(out[i] + 0.0) != at(recorded, i, NO_NUMBER_PATTERN) {
+    for (i, x) in out.iter().enumerate() {
+        if x.word() != recorded.get(i).copied().unwrap_or(T::NONE) {
             return false;
         }
-        i += 1;
     }
     recorded.len() <= out.len()
-}
-
-// Whether out begins with the recorded indices and is as before beyond them.
-pub fn same_indices(recorded: &[u64], out: &[u32]) -> bool
-    ensures { result ≡ same (λ n. n) no_index recorded.now 0 out.now }
-{
-    let mut i = 0;
-    while i < out.len() {
-        if wide(out[i]) != at(recorded, i, NO_INDEX_WORD) {
-            return false;
-        }
-        i += 1;
-    }
-    recorded.len() <= out.len()
-}
-
-fn wide(x: u32) -> u64
-    ensures { result ≡ x }
-{
-    x as u64
-}
-
-// What is recorded at i, or `none` beyond the last.
-fn at(recorded: &[u64], i: usize, none: u64) -> u64
-    ensures { result ≡ slice_index_or recorded.now i none }
-{
-    if i < recorded.len() {
-        recorded[i]
-    } else {
-        none
-    }
 }

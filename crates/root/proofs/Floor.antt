@@ -1,10 +1,10 @@
 -- `root` is the whole part of the square root, and a number q that is within a half of the root of w / 4 ^ k is what `root_of` keeps.
 -- Assumes nothing.
-use Rattle.std.proofs.Common.{◌≡◌, ℕ, zero, suc, ◌+◌, ◌-◌, ◌*◌, ◌/◌, ◌^◌, ◌<◌, ◌≤◌, Bool, true, false, cond, not, T, ltb, leb, ◌⊎◌, refl, ap, ◌∙◌, subst, inl, inr, le_of_eq, lt_of_lt_of_le, le_of_suc-le-suc, lt_of_le_of_lt, div-lt_iff_lt-mul, mul-le-mul, le_antisymm, lt_of_not-le, le-div_iff_mul-le, div-le_self, not-le_of_lt, arith, ltb→lt, leb→le, nltb→le, pow_pos, pow_mono}
+use Rattle.std.proofs.Common.{◌≡◌, ℕ, zero, suc, ◌+◌, ◌-◌, ◌*◌, ◌/◌, ◌^◌, ◌<◌, ◌≤◌, Bool, true, false, cond, not, T, ltb, leb, ◌⊎◌, refl, ap, ◌∙◌, subst, inl, inr, lt_of_lt_of_le, le_of_suc-le-suc, lt_of_le_of_lt, div-lt_iff_lt-mul, mul-le-mul, le_antisymm, lt_of_not-le, le-div_iff_mul-le, div-le_self, not-le_of_lt, arith, lit≤, ltb→lt, leb→le, nltb→le, pow_pos, pow_mono}
 use Prim.Native.Nat.compare
 use Prim.Native.Nat.{Ordering}
 use Prim.Native.Nat.{compare}
-use native.Mathlib.Nat.{pow-succ'}
+use native.Mathlib.Nat.{one-le-pow, pow-le-pow_left, pow-succ'}
 use lib.Dec.{nleb→lt}
 use lib.Ieee.{Format, prec, low, size, nearest, units}
 use lib.Ieee.Digits.{size-lt, size-le}
@@ -66,11 +66,7 @@ root_floor (suc k) n h =
 
 -- ---- what `root_of` keeps and drops
 pub below_four : (n : ℕ) → n < 2 ^ size n → n < 4 ^ size n
-below_four n h = lt_of_lt_of_le h (powers (size n))
-  where
-    powers : (k : ℕ) → 2 ^ k ≤ 4 ^ k
-    powers zero = le_of_eq refl
-    powers (suc k) = let h = powers k in let a = pow-succ' 2 k in let b = pow-succ' 4 k in omega arith
+below_four n h = lt_of_lt_of_le h (pow-le-pow_left (lit≤ tt) (size n))
 
 pub size_is : (a n : ℕ) → 2 ^ a ≤ n → n < 2 ^ suc a → size n ≡ suc a
 size_is a n lo hi =
@@ -86,8 +82,7 @@ unfolding root_of
 root_of_is f n = refl
 
 pub four_pos : (k : ℕ) → 0 < 4 ^ k
-four_pos zero = pow_pos 0
-four_pos (suc k) = let h = four_pos k in let b = pow-succ' 4 k in omega arith
+four_pos k = one-le-pow k 4 (lit≤ tt)
 
 -- q is nearest to the root of w / u, where u is a power of 4: both sides of (q - 1/2) ^ 2 < w / u < (q + 1/2) ^ 2, times 4 * u
 abbrev pub Near : ℕ → ℕ → ℕ → Type 0

@@ -1,7 +1,6 @@
 pub mod Digits
 pub mod Floor
 pub mod Pack
-pub mod Square
 pub mod Steps
 pub mod Reading
 pub mod Rounds

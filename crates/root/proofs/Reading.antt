@@ -3,7 +3,7 @@ use Rattle.std.proofs.Common.{◌≡◌, ℕ, zero, suc, ◌+◌, ◌-◌, ◌*�
 use mathlib.Core.Bool.{false≢true}
 use lib.Dec.{not_T}
 use lib.Arith.{le→nltb, lt→nleb}
-use lib.Ieee.{Float, nan, inf, fin, binary64, up, odd, div, of_fields, of_bits, nan_bits}
+use lib.Ieee.{Float, nan, inf, fin, binary64, up, odd, neg, of_fields, of_bits, nan_bits}
 use lib.Ieee.Fits.{down_pos}
 use lib.Ieee.Bits.{is_true, is_false, cond_no, nan_bits_above}
 use lib.Ieee.Exact.{HasValue, odd_sign}
@@ -114,13 +114,13 @@ negative b w h n =
         ∙ ap (sqrt_of binary64) (at_ones true)
         ∙ minus_infinity
 
-pub zero_by_zero : div binary64 (of_bits binary64 0) (of_bits binary64 0) ≡ nan
-unfolding div of_bits
-zero_by_zero = refl
+pub nan_pattern : of_bits binary64 (2047 * 2 ^ 52 + 2 ^ 51) ≡ nan
+unfolding of_bits
+nan_pattern = refl
 
 -- ---- the patterns of -0, the infinity and 0
-pub at_minus_zero : of_bits binary64 (2 ^ 63) ≡ sqrt_of binary64 (of_bits binary64 (2 ^ 63))
-unfolding sqrt_of of_bits
+pub at_minus_zero : neg (of_bits binary64 0) ≡ sqrt_of binary64 (of_bits binary64 (2 ^ 63))
+unfolding sqrt_of of_bits neg
 at_minus_zero = refl
 
 pub at_infinity : of_bits binary64 (2047 * 2 ^ 52) ≡ sqrt_of binary64 (of_bits binary64 (2047 * 2 ^ 52))

@@ -37,9 +37,6 @@ nearest_is m r l w = go (r % 2) refl
     go zero e = subst (λ (x : ℕ). Nearest m x) (omega arith) (even (r / 2) (omega arith))
     go (suc b) e = subst (λ (x : ℕ). Nearest m x) (omega arith) (odd (r / 2) (omega arith))
 
-pub root_fits : (m r : ℕ) → Leading m → Whole (m * 2 ^ 54) r → r + 1 < 2 ^ 64
-root_fits m r l w = let h : r * r < 2 ^ 54 * 2 ^ 54 = omega arith in let g = square_lt_back r (2 ^ 54) h in omega arith
-
 -- ---- moving the leading digit
 pow_lt_back : (i p : ℕ) → 2 ^ i < 2 ^ p → i < p
 pow_lt_back i p h = lt_of_not-le (λ (g : p ≤ i). lt_irrefl (2 ^ i) (lt_of_lt_of_le h (pow_mono g)))

@@ -1,19 +1,9 @@
 // Where the estimate of a root starts.
-ghost use Rattle.std.specs.Prelude.{◌^◌, ◌<◌};
-ghost use Rattle.root.specs.Code.{Leading};
+use crate::Radicand;
 
 // 2^30 / root(m / 2^54) to seven digits.
-pub(crate) fn seed(m: u64) -> u64
-    requires { Leading m }
-    ensures { result < 2 ^ 32 }
-{
-    (256 + wide(SEED[(m / 0x8000_0000_0000 - 32) as usize])) * 0x40_0000
-}
-
-fn wide(x: u8) -> u64
-    ensures { result < 2 ^ 8 }
-{
-    x as u64
+pub(crate) fn seed(of: Radicand) -> u32 {
+    (256 + u32::from(SEED[(of.m / 0x8000_0000_0000 - 32) as usize])) * 0x40_0000
 }
 
 // 256 / root(x) - 256 for x in the middle of 32/128 .. 33/128 and so on up to 127/128 .. 1.

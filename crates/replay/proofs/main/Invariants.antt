@@ -1,9 +1,0 @@
--- `replay::main` is safe, and fewer groups are left each time. Assumes nothing.
-use Rattle.std.proofs.Common.{◌≤◌}
-use Rattle.replay.proofs.main.Given as goal
-
-abbrev pub invariant-loop-left : goal.invariant-loop-left
-invariant-loop-left l = l.left ≤ l.initial.left
-
-abbrev pub decreases-loop-left : goal.decreases-loop-left
-decreases-loop-left l = l.left

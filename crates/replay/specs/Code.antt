@@ -1,6 +1,0 @@
--- What the clauses of the code cite. Definitions only.
-use Rattle.std.specs.Prelude.{◌≡◌, ℕ, ◌≤◌, List, length, take}
-
--- n counts elements at the start of xs; the second part follows from the first, and is stated for the proof of `&xs[..n]`
-abbrev pub Counts : {A : Type 0} → ℕ → List A → Type 0
-Counts n xs = (n ≤ length xs) × (n ≡ length (take n xs))
