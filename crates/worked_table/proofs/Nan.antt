@@ -1,4 +1,5 @@
 -- What NaN does: an example for each rule of docs/RULES.md under which a test with NaN fails, by computing the definitions. Assumes nothing.
+use Rattle.std.specs.Prelude.{None}
 use mathlib.Core.Path.{◌≡◌, refl}
 use mathlib.Core.List.{[], ◌∷◌}
 use mathlib.Core.Bool.{true, false}
@@ -6,7 +7,7 @@ use lib.IntN.{pos, negsuc}
 use lib.ListN.{get_or}
 use lib.Ieee.{Float, nan, inf, fin, le, neg}
 use Rattle.vector.specs.Number.{f0, f1, minus_one, half}
-use Rattle.vector.specs.Vector.{Vector, dot_from, least_aligned_axis, nowhere, unit}
+use Rattle.vector.specs.Vector.{Vector, dot_from, least_aligned_axis, unit}
 use Rattle.vector.specs.Rows.{seg}
 use Rattle.vector.specs.Tolerance.{tolerance}
 use Rattle.clip.specs.Clip.{Cut, inside, plane_section_segments, push_unique, ratio, without_closing}
@@ -25,7 +26,7 @@ axis tol = record { origin = pt f0 f0; normal = pt f0 f1; tol = tol }
 -- ---- vectors and the tolerance
 
 -- a norm must be greater than 0
-norm_of_nan : unit (pt nan f1) ≡ nowhere
+norm_of_nan : unit (pt nan f1) ≡ None
 unfolding unit
 norm_of_nan = refl
 
