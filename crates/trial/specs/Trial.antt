@@ -1,7 +1,8 @@
 -- What the exports of this crate give: what the proved function gives where the lengths fit, and else a refusal, with the buffers as
 -- they were. Definitions only.
-use Rattle.std.specs.Prelude.{◌≡◌, List, ℕ, ◌/◌, ◌*◌, ◌≤◌, length, Float}
-use Rattle.vector.specs.Vector.{Vector, Direction, along, nowhere, Framed, framed, unframed, deproject, project}
+use Rattle.std.specs.Prelude.{◌≡◌, List, ℕ, ◌/◌, ◌*◌, ◌≤◌, length, Float, Option, Some, None}
+use Rattle.vector.specs.Vector.{Vector, deproject, project}
+use Rattle.vector.specs.declared.Plane.{Plane}
 use Rattle.vector.specs.Rows.{put, row, rows, segs}
 use Rattle.clip.specs.Clip.{Cut, plane_section_segments}
 use Rattle.clip.specs.Cell.{at_most}
@@ -65,37 +66,39 @@ pub record Unstitched (r : Answer) (points points' : List Float) (nodes nodes' e
 
 -- ---- vectors
 
--- 1 where there is a plane, or a unit vector, and else 0; and what is then written to the buffer
-abbrev pub framed_number : Framed → ℕ
-framed_number unframed = 0
-framed_number (framed f) = 1
+-- 1 where something was found, a plane or a unit vector, and else 0
+abbrev pub number_of : {A : Type 0} → Option A → ℕ
+number_of None = 0
+number_of (Some a) = 1
 
-abbrev pub with_frame : Framed → List Float → List Float
-with_frame unframed out = out
-with_frame (framed f) out = put 3 (put 3 (put 3 out 0 f.normal) 1 f.u) 2 f.v
+-- the buffer with what was found
+abbrev pub with_found : {A : Type 0} → (A → List Float → List Float) → Option A → List Float → List Float
+with_found write None out = out
+with_found write (Some a) out = write a out
 
-abbrev pub unit_number : Direction → ℕ
-unit_number nowhere = 0
-unit_number (along a) = 1
+-- what was found was told and written
+pub record Given {A : Type 0} (write : A → List Float → List Float) (found : Option A) (r : ℕ) (out out' : List Float) : Type 0 where
+  pub number : r ≡ number_of found
+  pub numbers : out' ≡ with_found write found out
 
-abbrev pub with_unit : Direction → List Float → List Float
-with_unit nowhere out = out
-with_unit (along a) out = put 2 out 0 a
+-- the three vectors of a plane as rows
+abbrev pub frame_rows : Plane → List Float → List Float
+frame_rows f out = put 3 (put 3 (put 3 out 0 f.normal) 1 f.u) 2 f.v
 
--- a plane was told and written
-pub record FrameGiven (f : Framed) (r : ℕ) (out out' : List Float) : Type 0 where
-  pub number : r ≡ framed_number f
-  pub numbers : out' ≡ with_frame f out
+abbrev pub FrameGiven : Option Plane → ℕ → List Float → List Float → Type 0
+FrameGiven f r out out' = Given frame_rows f r out out'
 
--- a unit vector was told and written
-pub record UnitGiven (a : Direction) (r : ℕ) (out out' : List Float) : Type 0 where
-  pub number : r ≡ unit_number a
-  pub numbers : out' ≡ with_unit a out
+abbrev pub UnitGiven : Option Vector → ℕ → List Float → List Float → Type 0
+UnitGiven a r out out' = Given (λ v xs. put 2 xs 0 v) a r out out'
 
--- the fourth row in the plane whose origin, u and v are the first three; its normal is not read
+-- the plane whose origin, u and v are the first three rows; its normal is not read
+abbrev pub plane_in : List Float → Plane
+plane_in xs = record { origin = row 3 xs 0; normal = row 3 xs 0; u = row 3 xs 1; v = row 3 xs 2 }
+
+-- the fourth row in that plane
 abbrev pub projected : List Float → Vector
-projected xs = project (record { origin = row 3 xs 0; normal = row 3 xs 0; u = row 3 xs 1; v = row 3 xs 2 }) (row 3 xs 3)
+projected xs = project (plane_in xs) (row 3 xs 3)
 
 -- the point with the coordinates p in that plane
 abbrev pub deprojected : List Float → Vector → Vector
-deprojected xs p = deproject (record { origin = row 3 xs 0; normal = row 3 xs 0; u = row 3 xs 1; v = row 3 xs 2 }) p
+deprojected xs p = deproject (plane_in xs) p

@@ -2,16 +2,17 @@
 // export tests the lengths and refuses what does not fit; a slice passes as a pointer and a length.
 #![tactic(auto)]
 
-ghost use Rattle.std.specs.Prelude.{◌≡◌, [], ◌∷◌, ◌*◌, ◌/◌, ◌≤◌, length};
+ghost use Rattle.std.specs.Prelude.{◌≡◌, [], ◌∷◌, ◌*◌, ◌/◌, ◌<◌, ◌≤◌, length};
 ghost use Rattle.vector.specs.Rows.{put, row};
 ghost use Rattle.vector.specs.Vector.{line_of, normal_along, plane_of, unit};
-ghost use Rattle.vector.specs.View.{placed, unit2};
 ghost use Rattle.vector.specs.Tolerance.{tolerance};
 ghost use Rattle.clip.specs.Cell.{at_most};
 ghost use Rattle.stitch.specs.Code.{Stitchable};
-ghost use Rattle.trial.specs.Trial.{ClipFits, Clips, FrameGiven, Refused, Stitching, Total, UnitGiven, Unstitched, deprojected, projected};
+ghost use Rattle.trial.specs.Trial.{ClipFits, Clips, FrameGiven, Refused, Stitching, Total, UnitGiven, Unstitched, deprojected, plane_in, projected, stitched_in};
 
-use vector::{Placed, Plane, Unit2, Vec2, coord2, coord3, put2, put3};
+use clip::polygon::{Cut, plane_section_segments};
+use stitch::Stitched;
+use vector::{Plane, coord, put};
 
 // The answer to lengths that do not fit.
 const REFUSED: usize = 4294967295;
@@ -31,41 +32,14 @@ pub extern "C" fn trial_space_segments(
         (Refused result out.old out.new) }
 {
     let n = poly.len() / 3;
-    if n > 256 {
+    if n > 256 || placed.len() < 6 {
         return REFUSED;
     }
-    if placed.len() < 6 {
+    let most = 3 * n / 2;
+    if points.len() < 3 * most || out.len() < 6 * most {
         return REFUSED;
     }
-    if points.len() < 3 * (3 * n / 2) {
-        return REFUSED;
-    }
-    if out.len() < 6 * (3 * n / 2) {
-        return REFUSED;
-    }
-    space_segments(poly, n, placed, tol, points, out)
-}
-
-// The segments of n corners.
-fn space_segments(
-    poly: &[f64],
-    n: usize,
-    placed: &[f64],
-    tol: f64,
-    points: &mut [f64],
-    out: &mut [f64],
-) -> usize
-    requires { (3 * n ≤ length poly.now) × (6 ≤ length placed.now)
-        × (3 * at_most n ≤ length points.old) × (6 * at_most n ≤ length out.old) }
-    ensures { Clips 3 n poly.now placed.now tol out.old result out.new }
-{
-    let cut = clip_space::polygon::Cut {
-        origin: coord3(placed, 0),
-        normal: coord3(placed, 1),
-        tol: tol,
-    };
-    let found = clip_space::polygon::plane_section_segments(poly, n, cut, points, out);
-    found.segments
+    segments::<3>(poly, n, placed, tol, points, out)
 }
 
 // The same in the plane.
@@ -83,23 +57,18 @@ pub extern "C" fn trial_plane_segments(
         (Refused result out.old out.new) }
 {
     let n = poly.len() / 2;
-    if n > 384 {
+    if n > 384 || placed.len() < 4 {
         return REFUSED;
     }
-    if placed.len() < 4 {
+    let most = 3 * n / 2;
+    if points.len() < 2 * most || out.len() < 4 * most {
         return REFUSED;
     }
-    if points.len() < 2 * (3 * n / 2) {
-        return REFUSED;
-    }
-    if out.len() < 4 * (3 * n / 2) {
-        return REFUSED;
-    }
-    plane_segments(poly, n, placed, tol, points, out)
+    segments::<2>(poly, n, placed, tol, points, out)
 }
 
-// The segments of n corners.
-fn plane_segments(
+// The segments of n corners, of D coordinates each.
+fn segments<const D: usize>(
     poly: &[f64],
     n: usize,
     placed: &[f64],
@@ -107,22 +76,21 @@ fn plane_segments(
     points: &mut [f64],
     out: &mut [f64],
 ) -> usize
-    requires { (2 * n ≤ length poly.now) × (4 ≤ length placed.now)
-        × (2 * at_most n ≤ length points.old) × (4 * at_most n ≤ length out.old) }
-    ensures { Clips 2 n poly.now placed.now tol out.old result out.new }
+    requires { (0 < D) × (D ≤ 3) × (D * n ≤ length poly.now) × (2 * D ≤ length placed.now)
+        × (D * at_most n ≤ length points.old) × (D * (2 * at_most n) ≤ length out.old) }
+    ensures { Clips D n poly.now placed.now tol out.old result out.new }
 {
-    let cut = clip_plane::polygon::Cut {
-        origin: coord2(placed, 0),
-        normal: coord2(placed, 1),
-        tol: tol,
+    let cut = Cut {
+        origin: coord::<D>(placed, 0),
+        normal: coord::<D>(placed, 1),
+        tol,
     };
-    let found = clip_plane::polygon::plane_section_segments(poly, n, cut, points, out);
-    found.segments
+    plane_section_segments(poly, n, &cut, points, out).segments
 }
 
 // What stitching gives, and whether the lengths fitted.
 #[repr(C)]
-#[derive(Clone, Copy)]
+#[derive(Clone, Copy, Default)]
 pub struct Answer {
     pub fitted: usize,
     pub points: usize,
@@ -132,6 +100,23 @@ pub struct Answer {
     pub in_loops: usize,
     pub flat: usize,
     pub opened: usize,
+}
+
+impl From<Stitched> for Answer {
+    ghost from_gives = { λ s r. (r.fitted ≡ 1) × (stitched_in r ≡ s) };
+
+    fn from(s: Stitched) -> Self {
+        Answer {
+            fitted: 1,
+            points: s.points,
+            nodes: s.nodes,
+            loops: s.loops,
+            listed: s.counts.listed,
+            in_loops: s.counts.in_loops,
+            flat: s.counts.flat,
+            opened: s.counts.opened,
+        }
+    }
 }
 
 // Stitches segments of four numbers each.
@@ -151,46 +136,10 @@ pub extern "C" fn trial_stitch(
         ends.old ends.new) }
 {
     let s = segments.len() / 4;
-    if s > 384 {
-        return unfit();
+    if s > 384 || points.len() < 4 * s || nodes.len() < s || ends.len() < s / 3 {
+        return Answer::default();
     }
-    if points.len() < 4 * s {
-        return unfit();
-    }
-    if nodes.len() < s {
-        return unfit();
-    }
-    if ends.len() < s / 3 {
-        return unfit();
-    }
-    let r = stitch::stitch_segments(segments, s, tol, points, nodes, ends);
-    let counts = r.counts;
-    Answer {
-        fitted: 1,
-        points: r.points,
-        nodes: r.nodes,
-        loops: r.loops,
-        listed: counts.listed,
-        in_loops: counts.in_loops,
-        flat: counts.flat,
-        opened: counts.opened,
-    }
-}
-
-// The answer to lengths that do not fit.
-fn unfit() -> Answer
-    ensures { result.fitted ≡ 0 }
-{
-    Answer {
-        fitted: 0,
-        points: 0,
-        nodes: 0,
-        loops: 0,
-        listed: 0,
-        in_loops: 0,
-        flat: 0,
-        opened: 0,
-    }
+    stitch::stitch_segments(segments, s, tol, points, nodes, ends).into()
 }
 
 // The tolerance of coordinates in space.
@@ -198,7 +147,7 @@ fn unfit() -> Answer
 pub extern "C" fn trial_space_tolerance(coords: &[f64]) -> f64
     ensures { result ≡ tolerance 3 coords.now }
 {
-    vector::slice_tolerance(coords, 3)
+    vector::slice_tolerance::<3>(coords)
 }
 
 // The tolerance of coordinates in the plane.
@@ -206,7 +155,7 @@ pub extern "C" fn trial_space_tolerance(coords: &[f64]) -> f64
 pub extern "C" fn trial_plane_tolerance(coords: &[f64]) -> f64
     ensures { result ≡ tolerance 2 coords.now }
 {
-    vector::slice_tolerance(coords, 2)
+    vector::slice_tolerance::<2>(coords)
 }
 
 // The plane of a cut in two rows, its origin and its normal: unit normal, u and v, written to out. Gives 1, or 0 if there is none.
@@ -216,13 +165,10 @@ pub extern "C" fn trial_plane_frame(placed: &[f64], out: &mut [f64]) -> usize
         (FrameGiven (plane_of (row 3 placed.now 0) (row 3 placed.now 1)) result out.old out.new)
         (Refused result out.old out.new) }
 {
-    if placed.len() < 6 {
+    if placed.len() < 6 || out.len() < 9 {
         return REFUSED;
     }
-    if out.len() < 9 {
-        return REFUSED;
-    }
-    put_frame(Plane::new(coord3(placed, 0), coord3(placed, 1)), out)
+    put_frame(Plane::new(coord(placed, 0), coord(placed, 1)), out)
 }
 
 // The same for a line in space, the second row being its direction.
@@ -232,29 +178,23 @@ pub extern "C" fn trial_line_frame(placed: &[f64], out: &mut [f64]) -> usize
         (FrameGiven (line_of (row 3 placed.now 0) (row 3 placed.now 1)) result out.old out.new)
         (Refused result out.old out.new) }
 {
-    if placed.len() < 6 {
+    if placed.len() < 6 || out.len() < 9 {
         return REFUSED;
     }
-    if out.len() < 9 {
-        return REFUSED;
-    }
-    put_frame(Plane::of_line(coord3(placed, 0), coord3(placed, 1)), out)
+    put_frame(Plane::of_line(coord(placed, 0), coord(placed, 1)), out)
 }
 
 // Writes the three vectors of a plane. Gives 1, or 0 if there is no plane.
-fn put_frame(found: Placed, out: &mut [f64]) -> usize
+fn put_frame(found: Option<Plane>, out: &mut [f64]) -> usize
     requires { 9 ≤ length out.old }
-    ensures { FrameGiven (placed found) result out.old out.new }
+    ensures { FrameGiven found result out.old out.new }
 {
-    let Placed::On(p) = found else {
+    let Some(plane) = found else {
         return 0;
     };
-    let n = p.normal;
-    let u = p.u;
-    let v = p.v;
-    put3(out, 0, n);
-    put3(out, 1, u);
-    put3(out, 2, v);
+    put(out, 0, plane.normal);
+    put(out, 1, plane.u);
+    put(out, 2, plane.v);
     1
 }
 
@@ -265,20 +205,10 @@ pub extern "C" fn trial_project(rows: &[f64], out: &mut [f64]) -> usize
         ((result ≡ 1) × (out.new ≡ put 2 out.old 0 (projected rows.now)))
         (Refused result out.old out.new) }
 {
-    if rows.len() < 12 {
+    if rows.len() < 12 || out.len() < 2 {
         return REFUSED;
     }
-    if out.len() < 2 {
-        return REFUSED;
-    }
-    let origin = coord3(rows, 0);
-    let plane = Plane {
-        origin: origin,
-        normal: origin,
-        u: coord3(rows, 1),
-        v: coord3(rows, 2),
-    };
-    put2(out, 0, plane.project(coord3(rows, 3)));
+    put(out, 0, plane_in(rows).project(coord(rows, 3)));
     1
 }
 
@@ -289,21 +219,25 @@ pub extern "C" fn trial_deproject(rows: &[f64], x: f64, y: f64, out: &mut [f64])
         ((result ≡ 1) × (out.new ≡ put 3 out.old 0 (deprojected rows.now (x ∷ y ∷ []))))
         (Refused result out.old out.new) }
 {
-    if rows.len() < 9 {
+    if rows.len() < 9 || out.len() < 3 {
         return REFUSED;
     }
-    if out.len() < 3 {
-        return REFUSED;
-    }
-    let origin = coord3(rows, 0);
-    let plane = Plane {
-        origin: origin,
-        normal: origin,
-        u: coord3(rows, 1),
-        v: coord3(rows, 2),
-    };
-    put3(out, 0, plane.deproject(Vec2 { x: x, y: y }));
+    put(out, 0, plane_in(rows).deproject([x, y]));
     1
+}
+
+// The plane whose origin, u and v are the first three rows. Its normal is not read.
+fn plane_in(rows: &[f64]) -> Plane
+    requires { 9 ≤ length rows.now }
+    ensures { result ≡ plane_in rows.now }
+{
+    let origin = coord(rows, 0);
+    Plane {
+        origin,
+        normal: origin,
+        u: coord(rows, 1),
+        v: coord(rows, 2),
+    }
 }
 
 // The unit normal of a line in the plane with this normal, written to out. Gives 1, or 0 if there is none.
@@ -312,10 +246,7 @@ pub extern "C" fn trial_line_normal(x: f64, y: f64, out: &mut [f64]) -> usize
     ensures { Total (2 ≤ length out.old) (UnitGiven (unit (x ∷ y ∷ [])) result out.old out.new)
         (Refused result out.old out.new) }
 {
-    if out.len() < 2 {
-        return REFUSED;
-    }
-    put_unit(Vec2 { x: x, y: y }.unit(), out)
+    put_unit(vector::unit([x, y]), out)
 }
 
 // The same for a line with this direction.
@@ -324,20 +255,19 @@ pub extern "C" fn trial_line_normal_along(x: f64, y: f64, out: &mut [f64]) -> us
     ensures { Total (2 ≤ length out.old) (UnitGiven (normal_along (x ∷ y ∷ [])) result out.old out.new)
         (Refused result out.old out.new) }
 {
-    if out.len() < 2 {
-        return REFUSED;
-    }
-    put_unit(Vec2 { x: x, y: y }.normal_along(), out)
+    put_unit(vector::normal_along([x, y]), out)
 }
 
 // Writes a unit vector. Gives 1, or 0 if there is none.
-fn put_unit(found: Unit2, out: &mut [f64]) -> usize
-    requires { 2 ≤ length out.old }
-    ensures { UnitGiven (unit2 found) result out.old out.new }
+fn put_unit(found: Option<[f64; 2]>, out: &mut [f64]) -> usize
+    ensures { Total (2 ≤ length out.old) (UnitGiven found result out.old out.new) (Refused result out.old out.new) }
 {
-    let Unit2::Along(a) = found else {
+    if out.len() < 2 {
+        return REFUSED;
+    }
+    let Some(a) = found else {
         return 0;
     };
-    put2(out, 0, a);
+    put(out, 0, a);
     1
 }
