@@ -92,7 +92,7 @@ pub fn stitch_segments(
     stitch_within::<384, 768>(segments, s, rule, numbers, nodes, ends)
 }
 
-// Stitches by a rule, with tables for EDGES segments and their POINTS points.
+// Stitches by a rule, with tables for EDGES segments and their POINTS points, and marks for all 384 places.
 fn stitch_within<const EDGES: usize, const POINTS: usize>(
     segments: &[f64],
     s: usize,
@@ -110,7 +110,7 @@ fn stitch_within<const EDGES: usize, const POINTS: usize>(
         smaller: 0,
         larger: 0,
     }; EDGES];
-    let mut used = [false; EDGES];
+    let mut used = [false; 384];
     let mut walked = [0; POINTS];
     let mut past = [0; POINTS];
     let w = weld::weld(segments, s, rule.tol2, numbers, &mut edges);

@@ -8,7 +8,7 @@ use Rattle.stitch.proofs.stitch_within.Goals as goal
 pub stitch_edges-tally-requires : goal.stitch_edges-tally-requires
 stitch_edges-tally-requires g c = (
   welded_spare c.args.rule c.weld-w.ensures c.requires.0 (omega arith) _ (omega (arith, length-replicate g.row.POINTS zero)),
-  fresh c.args.rule c.weld-w.ensures c.requires.0 (omega arith) g.row.EDGES c.requires.1,
+  fresh c.args.rule c.weld-w.ensures c.requires.0 (omega arith) 384 c.requires.0.few,
 )
 
 pub returns : goal.returns
