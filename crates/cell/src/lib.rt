@@ -254,7 +254,7 @@ fn list_phed(conn: &[u64], corners: &mut [u8; 256], ends: &mut [usize; 85]) -> K
     }
 }
 
-// Row i of `from` written over row j of `out`.
+// Row i of `from` written over row j of `out`, number by number, as `vector::coord` does and why.
 fn copy_row<const W: usize>(from: &[f64], i: usize, out: &mut [f64], j: usize)
     requires from { W * i + W ≤ length from.now }
     requires out { W * j + W ≤ length out.old }

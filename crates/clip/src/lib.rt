@@ -88,7 +88,8 @@ fn ratio(da: f64, db: f64) -> f64
 }
 
 // The side of the cut that a polygon is clipped to, by the sign that makes its distances positive, if so many of n corners are above
-// tol and below -tol: 1 above, -1 below. None, if none is, or if all are on one side, since the face is then clear of the cut.
+// tol and below -tol: 1 above, -1 below. None, if none is; or if all are on one side and tol is not negative, since the face is then
+// clear of the cut.
 fn side_of(above: usize, below: usize, n: usize, tol: f64) -> Option<f64>
     ensures { result ≡ side_of above below n tol }
 {

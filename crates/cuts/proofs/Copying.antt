@@ -1,4 +1,4 @@
--- What is copied of an accepted cell is ready to be cut, and its segments fit stitching, in every tier of scratch. Assumes nothing.
+-- What is copied of an accepted cell is ready to be cut, and its segments fit stitching, in every size of scratch. Assumes nothing.
 use mathlib.Core.Path.{◌≡◌, sym, ap, ◌∙◌, subst}
 use mathlib.Core.List.{List, flatten}
 use Prim.Native.Nat.{ℕ, ◌+◌, ◌*◌, ◌≤◌}

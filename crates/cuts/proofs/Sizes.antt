@@ -196,7 +196,7 @@ module _ (k : Cell) (a : Accepted (space_cell k)) where
   number_is : k.cell_type ≡ space_number read.kind
   number_is = space_number_lem k.cell_type read.kind read.known
 
-  -- the three tiers
+  -- the three sizes of scratch
   pub fixed_within : (k.cell_type ≡ 18 → ⊥) → CellWithin 24 6 4 k
   fixed_within h =
       subst (Within 24 6 4) (sym read.passed.are) (fixed_faces k.conn k.coords read.kind (λ q. h (number_is ∙ q)))

@@ -18,7 +18,7 @@ use rows::Refusal;
 use stitch::Stitched;
 use vector::{Plane, coord};
 
-// What the vector is that a cut is given by.
+// What the vector is that a cut is given by: data of the definitions and theorems, so no closure stands for it.
 #[derive(Clone, Copy)]
 pub enum Way {
     Normal,
@@ -81,7 +81,7 @@ pub fn gather_cell(cell: &Cell, plane: Plane, tol: f64, out: &mut [f64]) -> Foun
 }
 
 // The same with scratch for so many numbers of corners, for so many faces, and for so many numbers of one face's clipped points and of
-// its segments.
+// its segments. Not inlined, so that a small cell's frame has no large scratch in it.
 #[inline(never)]
 fn gather_within<const CORNERS: usize, const FACES: usize, const POINTS: usize, const SPACE: usize>(
     cell: &Cell,
@@ -134,7 +134,7 @@ pub fn section_cell(
     section_within::<1536>(cell, plane, tol, numbers, nodes, ends)
 }
 
-// The same with scratch for so many numbers of segments.
+// The same with scratch for so many numbers of segments. Not inlined, for the same reason.
 #[inline(never)]
 fn section_within<const SEGMENTS: usize>(
     cell: &Cell,

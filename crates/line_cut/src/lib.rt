@@ -57,7 +57,8 @@ fn line_cell(cell: &Cell, plane: Plane, tol: f64, numbers: &mut [f64]) -> Found
 }
 
 // The section of a cell by the plane, and each of its loops cut by y = 0, with scratch for a section of so many numbers, nodes and ends,
-// and for so many numbers of a loop's polygon, of its clipped points and of its segments.
+// and for so many numbers of a loop's polygon, of its clipped points and of its segments. Not inlined, so that a small cell's frame has no
+// large scratch in it.
 #[inline(never)]
 fn line_within<
     const NUMBERS: usize,

@@ -72,7 +72,8 @@ fn line_cell(cell: &Cell, n: usize, cut: &Cut<2>, numbers: &mut [f64]) -> Found
     line_within::<512, 768>(cell, n, cut, numbers)
 }
 
-// The same with scratch for so many numbers of corners and of clipped points.
+// The same with scratch for so many numbers of corners and of clipped points. Not inlined, so that a small cell's frame has no large
+// scratch in it.
 #[inline(never)]
 fn line_within<const CORNERS: usize, const POINTS: usize>(
     cell: &Cell,

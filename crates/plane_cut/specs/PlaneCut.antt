@@ -10,7 +10,6 @@ use Rattle.cell.specs.Claims.{SameInSpace}
 use Rattle.cell.specs.declared.types.Shape.{Shape}
 use Rattle.cell.specs.declared.types.Shape.TheVariants.{Tet, Wedge, Hex, Phed}
 use Rattle.cell.specs.declared.types.SpaceType.{SpaceType}
-use Rattle.std.specs.Prelude.{Some}
 use Rattle.stitch.specs.Stitch.{Answer, rule_of}
 use Rattle.stitch.specs.Claim.{Claim}
 use Rattle.stitch.specs.Entry.{Buffers, Lengths, lengths, room, Told, told, Gave, answer_read, Small}

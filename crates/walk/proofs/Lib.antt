@@ -5,3 +5,4 @@ pub mod Ends
 pub mod Past
 pub mod Scan
 pub mod Walking
+pub mod Cosine

@@ -66,7 +66,8 @@ fn push_coord(points: &mut [f64], n: &mut usize, p: [f64; 2], tol2: f64) -> u32
     k as u32
 }
 
-// The number of the first of the n points within the tolerance of p: the first, not the nearest (docs/RULES.md).
+// The number of the first of the n points within the tolerance of p: the first, not the nearest (docs/RULES.md). A plain
+// loop, since it is the hottest.
 fn find(points: &[f64], n: usize, p: [f64; 2], tol2: f64) -> Option<usize>
     requires { 2 * n ≤ length points.now }
     ensures { result ≡ find p tol2 (rows 2 n points.now) }

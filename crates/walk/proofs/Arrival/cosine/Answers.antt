@@ -1,8 +1,10 @@
 -- `walk::Arrival::cosine` meets its contract. Assumes nothing.
 use mathlib.Core.Path.{◌∙◌}
-use Rattle.walk.specs.Walk.{cosine_to}
+use Rattle.walk.proofs.Cosine.{cosine_to_lem}
 use Rattle.walk.proofs.Arrival.cosine.Goals as goal
 
 pub returns : goal.returns
-unfolding cosine_to
-returns c = c.clamp.ensures ∙ rw (c.dot-2.ensures, c.sqrt-norm.ensures, c.dot.ensures, c.minus-outgoing.ensures)
+returns c =
+    c.clamp.ensures
+    ∙ cosine_to_lem c.args.self.incoming c.args.self.at c.args.next _ c.args.self.norm _ _ _ c.minus-outgoing.ensures c.dot.ensures c.sqrt-norm.ensures
+    c.dot-2.ensures
