@@ -5,4 +5,4 @@ pub mod Answers
 pub mod Polygon
 pub mod Bounds
 pub mod Alike
-pub mod Accepted
+pub mod Told

@@ -1,10 +1,10 @@
 -- The reading of a cell: its faces as polygons of corner coordinates, or the number of a refusal. Over the width w of a row.
 -- Definitions only.
-use Rattle.std.specs.Prelude.{ℕ, ◌/◌, ◌%◌, ◌≡◌, Bool, true, ◌&&◌, eqb, ltb, Float, length, get_or, Option, Some, None, Result}
+use Rattle.std.specs.Prelude.{ℕ, ◌/◌, ◌%◌, ◌≡◌, Bool, true, ◌&&◌, eqb, ltb, Float, length, get_or, Option, Some, None, Result, MatchResult}
 use mathlib.Core.List.{List, [], ◌∷◌, map, flatten}
 use Rattle.rows.specs.Rows.{row, over, ends_from}
-use Rattle.rows.specs.Outcome.{Outcome, refused, found, and_then, unless}
-use Rattle.rows.specs.Refusals.{outcome_of}
+use Rattle.rows.specs.Outcome.{Outcome, refused, found, unless}
+use Rattle.rows.specs.Refusals.{number}
 use Rattle.rows.specs.declared.Refusal.{Refusal}
 use Rattle.cell.specs.Types.{allow, space_type, space_nodes, shape_of, plane_type, plane_nodes, plane_corners}
 use Rattle.cell.specs.Faces.{Face, faces_of, polygon_of}
@@ -111,9 +111,9 @@ face_count o = length (polygons_of o)
 abbrev pub kept_of : List Polygon → Kept
 kept_of ps = record { corners = length (flatten ps); faces = length ps }
 
--- the answer to a test tells what the reading o refuses, or how many corners are kept of it
-pub record Tested (o : Outcome (List Polygon)) (answer : Result ℕ Refusal) : Type 0 where
-  pub tells : outcome_of answer ≡ and_then o (λ ps. found (length (flatten ps)))
+-- the answer to a test has what P says of an accepted cell, or it is what the reading o refuses
+abbrev pub Tested : {A : Type 0} → (A → Type 0) → Outcome (List Polygon) → Result A Refusal → Type 0
+Tested P o answer = MatchResult answer P (λ refusal. o ≡ refused (number refusal))
 
 -- the polygons ps are written: their corners' coordinates over one slice, and where each ends among the corners over another; k tells how
 -- many there are

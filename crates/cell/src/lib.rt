@@ -1,6 +1,7 @@
 // A cell's faces and corners: refusals 1 to 4 are tested first, and the corners of what is accepted are copied.
 #![tactic(auto)]
 
+pub mod accepted;
 pub mod types;
 
 ghost use Rattle.std.specs.Prelude.{◌≡◌, ◌+◌, ◌*◌, ◌/◌, ◌<◌, ◌≤◌, length, get_or, take};
@@ -10,10 +11,11 @@ ghost use Rattle.rows.specs.Refusals.{outcome_of};
 ghost use Rattle.rows.specs.Rows.{over, row};
 ghost use Rattle.cell.specs.Faces.{stretches, kept, faces_of};
 ghost use Rattle.cell.specs.Read.{polygons, space_cell, plane_cell, polygons_of, corners_of, face_count};
-ghost use Rattle.cell.specs.Read.{cell_of, Accepted, Copied, CopiedPolygon, Tested};
+ghost use Rattle.cell.specs.Read.{cell_of, Copied, CopiedPolygon, Tested};
 ghost use Rattle.cell.specs.Code.{Below, gathered, rows_tested, corners_tested, Listed, Testable};
 ghost use Rattle.cell.specs.Code.{Copies, CopiesFaces, PutsFaces, PutFaces};
 
+use accepted::{PlaneCell, SpaceCell};
 use rows::Refusal;
 use types::{Nodes, PlaneType, Shape, SpaceType};
 
@@ -32,48 +34,34 @@ pub struct Kept {
     pub faces: usize,
 }
 
-impl Cell<'_> {
-    // Refusals 1 to 4 of a cell in space, or how many face corners it has. Writes nothing.
-    pub fn test_in_space(&self) -> Result<usize, Refusal>
-        ensures { Tested (space_cell (cell_of self.now)) result }
+impl<'a> Cell<'a> {
+    // The accepted cell in space, or one of refusals 1 to 4.
+    pub fn in_space(&self) -> Result<SpaceCell<'a>, Refusal>
+        ensures { Tested (λ taken. cell_of taken.cell ≡ cell_of self.now) (space_cell (cell_of self.now)) result }
     {
         let kind = SpaceType::try_from(self.cell_type)?;
         let rows = self.rows::<3>(kind.nodes())?;
-        self.test_faces(kind.shape(), rows)
+        let corners = self.test_faces(kind.shape(), rows)?;
+        Ok(SpaceCell {
+            cell: *self,
+            kind,
+            corners,
+        })
     }
 
-    // The corners' coordinates of an accepted cell in space, written over the start of `out` face by face, and where
-    // each face ends among the corners, written over the start of `face_ends`.
-    pub fn copy_in_space(&self, out: &mut [f64], face_ends: &mut [usize]) -> Kept
-        requires { Accepted (space_cell (cell_of self.now))
-            × (3 * corners_of (space_cell (cell_of self.now)) ≤ length out.old)
-            × (face_count (space_cell (cell_of self.now)) ≤ length face_ends.old) }
-        ensures { Copied (polygons_of (space_cell (cell_of self.now))) result
-            out.old out.new face_ends.old face_ends.new }
-    {
-        let kind = SpaceType::try_from(self.cell_type).unwrap();
-        self.copy_faces(kind.shape(), out, face_ends)
-    }
-
-    // Refusals 1 to 4 of a cell in the plane, or how many corners it has. Writes nothing.
-    pub fn test_in_plane(&self) -> Result<usize, Refusal>
-        ensures { Tested (plane_cell (cell_of self.now)) result }
+    // The accepted cell in the plane, or one of refusals 1 to 4.
+    pub fn in_plane(&self) -> Result<PlaneCell<'a>, Refusal>
+        ensures { Tested (λ taken. cell_of taken.cell ≡ cell_of self.now) (plane_cell (cell_of self.now)) result }
     {
         let kind = PlaneType::try_from(self.cell_type)?;
         let rows = self.rows::<2>(kind.nodes())?;
         let n = kind.corners(self.conn.len());
-        self.test_corners(&POSITIONS[..n], rows)
-    }
-
-    // The corners' coordinates of an accepted cell in the plane, written over the start of `out`.
-    pub fn copy_in_plane(&self, out: &mut [f64])
-        requires { Accepted (plane_cell (cell_of self.now))
-            × (2 * corners_of (plane_cell (cell_of self.now)) ≤ length out.old) }
-        ensures { CopiedPolygon (polygons_of (plane_cell (cell_of self.now))) out.old out.new }
-    {
-        let kind = PlaneType::try_from(self.cell_type).unwrap();
-        let n = kind.corners(self.conn.len());
-        self.copy_rows::<2>(&POSITIONS[..n], out)
+        let corners = self.test_corners(&POSITIONS[..n], rows)?;
+        Ok(PlaneCell {
+            cell: *self,
+            kind,
+            corners,
+        })
     }
 
     // Refusals 2 and 3 of a type with so many nodes, or how many rows of W coordinates there are.
@@ -175,6 +163,30 @@ impl Cell<'_> {
         ensures { result ≡ get_or self.now.conn.now p 0 }
     {
         self.conn[p as usize] as usize
+    }
+}
+
+impl SpaceCell<'_> {
+    // The corners' coordinates of the cell, written over the start of `out` face by face, and where
+    // each face ends among the corners, written over the start of `face_ends`.
+    pub fn copy(&self, out: &mut [f64], face_ends: &mut [usize]) -> Kept
+        requires { (3 * self.now.corners ≤ length out.old)
+            × (face_count (space_cell (cell_of self.now.cell)) ≤ length face_ends.old) }
+        ensures { Copied (polygons_of (space_cell (cell_of self.now.cell))) result
+            out.old out.new face_ends.old face_ends.new }
+    {
+        self.cell.copy_faces(self.kind.shape(), out, face_ends)
+    }
+}
+
+impl PlaneCell<'_> {
+    // The corners' coordinates of the cell, written over the start of `out`.
+    pub fn copy(&self, out: &mut [f64])
+        requires { (2 * self.now.corners ≤ length out.old) }
+        ensures { CopiedPolygon (polygons_of (plane_cell (cell_of self.now.cell))) out.old out.new }
+    {
+        let n = self.kind.corners(self.cell.conn.len());
+        self.cell.copy_rows::<2>(&POSITIONS[..n], out)
     }
 }
 

@@ -16,7 +16,7 @@ use Rattle.clip.specs.Code.{Fit, Segments}
 use Rattle.clip.proofs.Bound.{cell_bound}
 use Rattle.stitch.specs.Code.{Stitchable}
 use Rattle.cuts.specs.Cuts.{segments_on}
-use Rattle.cuts.specs.Code.{CanSection, CellFits, CellWithin}
+use Rattle.cuts.specs.Code.{CellFits, CellWithin, Roomy}
 use Rattle.cuts.proofs.Sizes.{any_within, copied_back, copied_fit, corners_in_all}
 
 -- ---- what was copied, as its reader takes it
@@ -66,17 +66,16 @@ module _ (k : Cell) (a : Accepted (space_cell k)) {r : Kept} {coords coords' : L
 
 -- ---- stitching
 
-pub lent : {k : Cell} {numbers : List Float} {nodes ends : List ℕ} {segments out : List Float} {s : ℕ} (l : Plane)
-    (tol : Float) → CanSection k numbers nodes ends → 6 * corners_of (space_cell k) ≤ length segments
+pub lent : (k : Cell) {m : ℕ} {numbers : List Float} {nodes ends : List ℕ} {segments out : List Float} {s : ℕ} (l : Plane) (tol : Float)
+    → Accepted (space_cell k) → m ≡ corners_of (space_cell k) → Roomy m numbers nodes ends → 6 * m ≤ length segments
     → Segments 2 segments (segments_on l tol (polygons_of (space_cell k))) s out → length out ≡ length segments
     → Stitchable s out numbers nodes ends
-lent {k} {out = out} {s = s} f tol h v g l =
+lent k {out = out} {s = s} f tol a e r v g l =
     let ps = polygons_of (space_cell k) in
     let n : s ≡ length (segments_on f tol ps) = sym (segs_length 2 s out) ∙ ap length g.are in
     let b = cell_bound (cut_by f tol) f ps in
     let m = corners_in_all ps in
-    let j = (any_within k h.accepted).corners in
-    let r = h.roomy in
+    let j = (any_within k a).corners in
     let x = r.for_numbers in
     let y = r.for_nodes in
     let z = r.for_ends in

@@ -1,5 +1,5 @@
 -- The cut of a cell that was tested, by how far its entry came; what a cut can answer; and that only the corners matter. Assumes nothing.
-use mathlib.Core.Path.{◌≡◌, refl, sym, ap, ◌∙◌}
+use mathlib.Core.Path.{◌≡◌, refl, sym, ap, ◌∙◌, subst}
 use mathlib.Core.List.{List, flatten}
 use mathlib.Core.Bool.{Bool, true, false}
 use Prim.Native.Nat.{ℕ, ◌/◌, ◌%◌, ◌≤◌}
@@ -8,67 +8,44 @@ use lib.Dec.{eqb}
 use lib.Ieee.{Float}
 use lib.ListN.{length}
 use Rattle.rows.specs.Outcome.{Outcome, refused, found, and_then, unless, Sound}
-use Rattle.rows.proofs.Outcomes.{sound_then, never_both}
+use Rattle.rows.proofs.Outcomes.{sound_then}
 use Rattle.cell.specs.Types.{allow}
 use Rattle.cell.specs.Read.{Polygon, Typed, untyped, typed, are_rows, polygons, read_as, polygons_of, corners_of, Accepted}
-use Rattle.cell.specs.Read.{Cell, space_cell, Tested}
-use Rattle.rows.specs.Refusals.{number, outcome_of}
-use Rattle.rows.specs.declared.Refusal.{Refusal}
-use Rattle.std.specs.Prelude.{Result, Ok, Err}
+use Rattle.cell.specs.Read.{Cell, cell_of, space_cell}
+use Rattle.cell.specs.declared.accepted.SpaceCell.{SpaceCell}
 use Rattle.cuts.specs.Cuts.{cut_cell}
 use Rattle.cuts.proofs.Sizes.{any_within}
 
--- ---- which of the two the answer to a test tells
-
-refused_only : (o : Outcome (List Polygon)) (k : ℕ) → refused k ≡ and_then o (λ ps. found (length (flatten ps))) → o ≡ refused k
-refused_only (refused j) k e = let z : k ≡ j = cc in ap refused (sym z)
-refused_only (found ps) k e = absurd (never_both e)
-
--- a cell that was read
-record IsCell (o : Outcome (List Polygon)) (m : ℕ) : Type 0 where
-  pub is : Accepted o
-  pub corners : m ≡ corners_of o
-
-cell_only : (o : Outcome (List Polygon)) (m : ℕ) → found m ≡ and_then o (λ ps. found (length (flatten ps))) → IsCell o m
-cell_only (refused j) m e = absurd (never_both (sym e))
-cell_only (found ps) m e = record { is = refl; corners = cc }
-
 -- ---- the steps of an entry
 
-module _ {o : Outcome (List Polygon)} {r : Result ℕ Refusal} (h : Tested o r) where
-  -- 1 to 4
-  pub was_refused : {k : Refusal} → r ≡ Err k → o ≡ refused (number k)
-  was_refused {k} e = refused_only o (number k) (ap outcome_of (sym e) ∙ h.tells)
+-- 1 to 4
+pub cell_refused : {A B : Type 0} {o : Outcome (List Polygon)} (by : Outcome B) (work : ℕ → List Polygon → B → Outcome A) {k : ℕ}
+    → o ≡ refused k → cut_cell o by work ≡ refused k
+cell_refused by work e = ap (λ i. cut_cell i by work) e
 
-  pub cell_refused : {A B : Type 0} (by : Outcome B) (work : ℕ → List Polygon → B → Outcome A) {k : Refusal} → r ≡ Err k
-      → cut_cell o by work ≡ refused (number k)
-  cell_refused by work e = ap (λ i. cut_cell i by work) (was_refused e)
+module _ {o : Outcome (List Polygon)} {m : ℕ} (a : Accepted o) (e : m ≡ corners_of o) {A B : Type 0} {by : Outcome B}
+    (work : ℕ → List Polygon → B → Outcome A) where
+  -- 5 and 6
+  pub place_refused : {k : ℕ} → by ≡ refused k → cut_cell o by work ≡ refused k
+  place_refused q = ap (λ i. cut_cell i by work) a ∙ ap (λ b. and_then b (work (corners_of o) (polygons_of o))) q
 
-  module _ {m : ℕ} (e : r ≡ Ok m) where
-    accepted : IsCell o m
-    accepted = cell_only o m (ap outcome_of (sym e) ∙ h.tells)
+  -- 7 and the answer
+  pub at_work : {b : B} {r : Outcome A} → by ≡ found b → work m (polygons_of o) b ≡ r → cut_cell o by work ≡ r
+  at_work {b} q w =
+      ap (λ i. cut_cell i by work) a ∙ ap (λ b. and_then b (work (corners_of o) (polygons_of o))) q
+      ∙ ap (λ k. work k (polygons_of o) b) (sym e) ∙ w
 
-    pub was_accepted : Accepted o
-    was_accepted = accepted.is
+-- what an accepted cell has, told of the cell that was tested
+module _ (k : SpaceCell) {j : Cell} (e : cell_of k.cell ≡ j) where
+  pub is_accepted : Accepted (space_cell j)
+  is_accepted = subst (λ j. Accepted (space_cell j)) e k.accepted
 
-    pub corners_told : m ≡ corners_of o
-    corners_told = accepted.corners
-
-    module _ {A B : Type 0} {by : Outcome B} (work : ℕ → List Polygon → B → Outcome A) where
-      -- 5 and 6
-      pub place_refused : {k : ℕ} → by ≡ refused k → cut_cell o by work ≡ refused k
-      place_refused q =
-          ap (λ i. cut_cell i by work) was_accepted ∙ ap (λ b. and_then b (work (corners_of o) (polygons_of o))) q
-
-      -- 7 and the answer
-      pub at_work : {b : B} {a : Outcome A} → by ≡ found b → work m (polygons_of o) b ≡ a → cut_cell o by work ≡ a
-      at_work {b} q w =
-          ap (λ i. cut_cell i by work) was_accepted ∙ ap (λ b. and_then b (work (corners_of o) (polygons_of o))) q
-          ∙ ap (λ k. work k (polygons_of o) b) (sym corners_told) ∙ w
+  pub counted : k.corners ≡ corners_of (space_cell j)
+  counted = subst (λ j. k.corners ≡ corners_of (space_cell j)) e k.count
 
 -- m is small
-pub corners_few : (k : Cell) {r : Result ℕ Refusal} → Tested (space_cell k) r → {m : ℕ} → r ≡ Ok m → m ≤ 256
-corners_few k h e = omega (arith, corners_told h e, (any_within k (was_accepted h e)).corners)
+pub corners_few : (k : SpaceCell) → k.corners ≤ 256
+corners_few k = omega (arith, k.count, (any_within (cell_of k.cell) k.accepted).corners)
 
 -- ---- what a cut can answer
 

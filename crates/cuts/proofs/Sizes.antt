@@ -8,12 +8,13 @@ use native.Mathlib.Nat.{mul-suc, mul-zero, zero-add}
 use lib.Dec.{T, ltb, ltb→lt}
 use lib.Ieee.{Float}
 use lib.Ieee.Fits.{and_l, and_r}
+use Rattle.std.proofs.Common.{Some}
 use lib.ListN.{length, get_or, take, drop, length-append}
 use lib.Seq.{drop-drop, take_at, drop_at}
 use Rattle.rows.specs.Outcome.{found}
 use Rattle.rows.proofs.Lists.{ends_taken, flatten_append, flatten_map}
 use Rattle.vector.specs.Rows.{rows, ends_from, over}
-use Rattle.cell.specs.Types.{space_number, shape_of}
+use Rattle.cell.specs.Types.{shape_of, space_type}
 use Rattle.cell.specs.Claims.{CornersKept}
 use Rattle.cell.specs.declared.types.Shape.{Shape}
 use Rattle.cell.specs.declared.types.Shape.TheVariants as H
@@ -22,8 +23,9 @@ use Rattle.cell.specs.Read.{corner, are_rows, Polygon, polygons, Cell, space_cel
 use Rattle.cell.specs.declared.types.SpaceType.{SpaceType}
 use Rattle.cell.specs.declared.types.SpaceType.TheVariants.{Tet4, Tet10, Hex8, Hex21, Wedge6, Wedge15, Phed}
 use Rattle.cell.proofs.Gathering.{row_length}
-use Rattle.cell.proofs.Answers.{Passed, SpaceRead, space_read, polygons_size}
-use Rattle.cell.proofs.Bounds.{phed_few, space_bounds, space_number_lem}
+use Rattle.cell.proofs.Answers.{Passed, space_read, polygons_size}
+use Rattle.cell.proofs.Told.{space_passed}
+use Rattle.cell.proofs.Bounds.{phed_few, space_bounds}
 use Rattle.cell.specs.declared.types.Nodes.{Nodes}
 use Rattle.clip.specs.Cell.{at_most, corners, faces_from, faces_of}
 use Rattle.clip.specs.Code.{Fit}
@@ -157,7 +159,7 @@ module _ (c : List ℕ) (xs : List Float) where
         each = (omega arith, (omega arith, (omega arith, (omega arith, (omega arith, (omega arith, tt))))));
       }
 
-  fixed_faces : (k : SpaceType) → (space_number k ≡ 18 → ⊥) → Within 24 6 4 (polygons 3 c xs (facesIn (shape_of k) c))
+  fixed_faces : (k : SpaceType) → (k ≡ Phed → ⊥) → Within 24 6 4 (polygons 3 c xs (facesIn (shape_of k) c))
   fixed_faces Tet4 h = tets
   fixed_faces Tet10 h = tets
   fixed_faces Hex8 h = hexes
@@ -165,16 +167,6 @@ module _ (c : List ℕ) (xs : List Float) where
   fixed_faces Wedge6 h = wedges
   fixed_faces Wedge15 h = wedges
   fixed_faces Phed h = absurd (h refl)
-
--- a polyhedron has no more corners than entries
-phed_corners : (k : SpaceType) (c : List ℕ) → space_number k ≡ 18 → length (flatten (facesIn (shape_of k) c)) ≤ length c
-phed_corners Tet4 c e = absurd (omega (arith, e))
-phed_corners Tet10 c e = absurd (omega (arith, e))
-phed_corners Hex8 c e = absurd (omega (arith, e))
-phed_corners Hex21 c e = absurd (omega (arith, e))
-phed_corners Wedge6 c e = absurd (omega (arith, e))
-phed_corners Wedge15 c e = absurd (omega (arith, e))
-phed_corners Phed c e = phed_few c
 
 kept_few : (s : Shape) (m : ℕ) → CornersKept s m → m ≤ 256
 kept_few H.Tet m e = omega (arith, e)
@@ -186,30 +178,25 @@ kept_few H.Phed m e = e
 pub found_few : (k : Cell) (ps : List Polygon) → space_cell k ≡ found ps → length (flatten ps) ≤ 256
 found_few k ps r = let q = space_read k ps r in kept_few (shape_of q.kind) (length (flatten ps)) (space_bounds k ps q).corners
 
-module _ (k : Cell) (a : Accepted (space_cell k)) where
-  abbrev ps : List Polygon
-  ps = polygons_of (space_cell k)
+pub any_within : (k : Cell) → Accepted (space_cell k) → CellWithin 256 85 256 k
+any_within k a =
+    let ps = polygons_of (space_cell k) in
+    in_all 256 85 ps (found_few k ps a) (space_bounds k ps (space_read k ps a)).faces (omega arith)
 
-  read : SpaceRead k ps
-  read = space_read k ps a
+-- by the type
+module _ (k : Cell) (a : Accepted (space_cell k)) (t : SpaceType) (e : space_type k.cell_type ≡ Some t) where
+  pub fixed_within : (t ≡ Phed → ⊥) → CellWithin 24 6 4 k
+  fixed_within h = subst (Within 24 6 4) (sym (space_passed k a t e).are) (fixed_faces k.conn k.coords t h)
 
-  number_is : k.cell_type ≡ space_number read.kind
-  number_is = space_number_lem k.cell_type read.kind read.known
-
-  -- the three sizes of scratch
-  pub fixed_within : (k.cell_type ≡ 18 → ⊥) → CellWithin 24 6 4 k
-  fixed_within h =
-      subst (Within 24 6 4) (sym read.passed.are) (fixed_faces k.conn k.coords read.kind (λ q. h (number_is ∙ q)))
-
-  pub phed_within : (m f : ℕ) → k.cell_type ≡ 18 → length k.conn ≤ m → m / 3 ≤ f → CellWithin m f m k
-  phed_within m f e h l =
-      let fs = facesIn (shape_of read.kind) k.conn in
+  -- a polyhedron has no more corners than entries
+  pub phed_within : (m f : ℕ) → t ≡ Phed → length k.conn ≤ m → m / 3 ≤ f → CellWithin m f m k
+  phed_within m f p h l =
+      let ps = polygons_of (space_cell k) in
+      let fs = facesIn (shape_of t) k.conn in
       let n : length (flatten fs) ≡ length (flatten ps)
-      = polygons_size 3 k.conn k.coords fs ∙ ap (λ l. length (flatten l)) (sym read.passed.are) in
-      in_all m f ps (omega (arith, phed_corners read.kind k.conn (sym number_is ∙ e))) (space_bounds k ps read).faces l
-
-  pub any_within : CellWithin 256 85 256 k
-  any_within = in_all 256 85 ps (found_few k ps a) (space_bounds k ps read).faces (omega arith)
+      = polygons_size 3 k.conn k.coords fs ∙ ap (λ l. length (flatten l)) (sym (space_passed k a t e).are) in
+      let few : length (flatten fs) ≤ length k.conn = subst (λ t. length (flatten (facesIn (shape_of t) k.conn)) ≤ length k.conn) (sym p) (phed_few k.conn) in
+      in_all m f ps (omega arith) (space_bounds k ps (space_read k ps a)).faces l
 
 -- ---- the faces that were read fit their scratch
 

@@ -3,7 +3,7 @@ use mathlib.Core.List.{List, flatten}
 use Rattle.std.specs.Prelude.{ℕ, ◌*◌, ◌/◌, ◌≤◌, length, Float}
 use Rattle.vector.specs.Vector.{Vector}
 use Rattle.vector.specs.declared.Plane.{Plane}
-use Rattle.cell.specs.Read.{Polygon, Cell, space_cell, polygons_of, corners_of, Accepted}
+use Rattle.cell.specs.Read.{Polygon, Cell, space_cell, polygons_of}
 use Rattle.clip.specs.Cell.{at_most}
 use Rattle.walk.specs.Walk.{All}
 use Rattle.stitch.specs.Code.{AnswerGiven}
@@ -11,6 +11,8 @@ use Rattle.stitch.specs.Entry.{Buffers}
 use Rattle.stitch.specs.declared.Stitched.{Stitched}
 use Rattle.cuts.specs.Cuts.{Through, section_of, through}
 use Rattle.cuts.specs.declared.Through as code
+use Rattle.cuts.specs.declared.Size.{Size}
+use Rattle.cuts.specs.declared.Size.TheVariants.{Fixed, Small, Large}
 
 -- a cut as the code is lent it
 abbrev pub through_of : code.Through → Through
@@ -20,23 +22,13 @@ through_of g = through g.origin.now g.vector.now
 abbrev pub rows_of : code.Through → Vector × Vector
 rows_of g = (g.origin.now, g.vector.now)
 
--- ---- what the work on an accepted cell in space needs
+-- ---- the section of an accepted cell in space
 
 -- buffers that hold the section of m corners
 pub record Roomy (m : ℕ) (numbers : List Float) (nodes ends : List ℕ) : Type 0 where
   pub for_numbers : 6 * m ≤ length numbers
   pub for_nodes : 3 * m / 2 ≤ length nodes
   pub for_ends : m / 2 ≤ length ends
-
--- its segments have room
-pub record CanGather (k : Cell) (out : List Float) : Type 0 where
-  pub accepted : Accepted (space_cell k)
-  pub room : 6 * corners_of (space_cell k) ≤ length out
-
--- its section has room
-pub record CanSection (k : Cell) (numbers : List Float) (nodes ends : List ℕ) : Type 0 where
-  pub accepted : Accepted (space_cell k)
-  pub roomy : Roomy (corners_of (space_cell k)) numbers nodes ends
 
 -- the section of polygons by a plane is given
 pub record SectionGiven (f : Plane) (tol : Float) (ps : List Polygon) (r : Stitched) (b b' : Buffers) : Type 0 where
@@ -58,6 +50,12 @@ pub record Within (m f n : ℕ) (ps : List Polygon) : Type 0 where
 -- those of a cell in space
 abbrev pub CellWithin : ℕ → ℕ → ℕ → Cell → Type 0
 CellWithin m f n k = Within m f n (polygons_of (space_cell k))
+
+-- and of one of each size
+abbrev pub Sized : Size → Cell → Type 0
+Sized Fixed k = CellWithin 24 6 4 k
+Sized Small k = CellWithin 88 29 88 k
+Sized Large k = CellWithin 256 85 256 k
 
 -- scratch of c numbers of corners, f face ends, p numbers of clipped points and q of segments in space holds polygons within some sizes
 pub record Fits (c f p q : ℕ) (ps : List Polygon) : Type 0 where

@@ -1,17 +1,17 @@
 // What all cuts share: placing, and the segments and the section of an accepted cell on a plane.
 #![tactic(auto)]
 
-ghost use Rattle.std.specs.Prelude.{◌≡◌, ◌*◌, ◌≤◌};
+ghost use Rattle.std.specs.Prelude.{◌≡◌, ◌*◌, ◌≤◌, length};
 ghost use Rattle.rows.specs.Outcome.{found};
 ghost use Rattle.rows.specs.Refusals.{outcome_of};
-ghost use Rattle.cell.specs.Read.{cell_of, corners_of, polygons_of, space_cell};
+ghost use Rattle.cell.specs.Read.{cell_of, polygons_of, space_cell};
 ghost use Rattle.clip.specs.Cell.{cut_by};
 ghost use Rattle.clip.specs.Code.{CellCut};
 ghost use Rattle.stitch.specs.Entry.{buffers};
 ghost use Rattle.cuts.specs.Cuts.{frame_by, place_in, placed_by};
-ghost use Rattle.cuts.specs.Code.{CanGather, CanSection, CellFits, SectionGiven, rows_of, through_of};
+ghost use Rattle.cuts.specs.Code.{CellFits, Roomy, SectionGiven, Sized, rows_of, through_of};
 
-use cell::Cell;
+use cell::accepted::SpaceCell;
 use cell::types::SpaceType;
 use clip::Found;
 use rows::Refusal;
@@ -62,43 +62,63 @@ fn plane_by(way: Way, origin: [f64; 3], vector: [f64; 3]) -> Option<Plane>
     }
 }
 
+// How large the scratch is that a cell takes. It comes in three sizes, so that small cells do not pay for large ones.
+#[derive(Clone, Copy)]
+pub enum Size {
+    Fixed,
+    Small,
+    Large,
+}
+
+impl Size {
+    // Fixed types have at most 24 face corners, four a face; small polyhedra at most 88 entries; and others 256.
+    pub fn of(cell: &SpaceCell) -> Size
+        ensures { Sized result (cell_of cell.now.cell) }
+    {
+        match cell.kind {
+            SpaceType::Phed => {
+                if cell.cell.conn.len() <= 88 {
+                    return Size::Small;
+                }
+                Size::Large
+            }
+            _ => Size::Fixed,
+        }
+    }
+}
+
 // The segments of an accepted cell on a plane, in the plane's own coordinates, written over the start of `out`.
-//
-// Scratch comes in three sizes, so that small cells do not pay for large ones: fixed types have at most 24 face corners,
-// four a face; small polyhedra at most 88 entries; and others 256.
-pub fn gather_cell(cell: &Cell, plane: Plane, tol: f64, out: &mut [f64]) -> Found
-    requires { CanGather (cell_of cell.now) out.old }
-    ensures { CellCut (cut_by plane tol) plane (polygons_of (space_cell (cell_of cell.now))) out.old
+pub fn gather_cell(cell: &SpaceCell, plane: Plane, tol: f64, out: &mut [f64]) -> Found
+    requires { 6 * cell.now.corners ≤ length out.old }
+    ensures { CellCut (cut_by plane tol) plane (polygons_of (space_cell (cell_of cell.now.cell))) out.old
         result out.new }
 {
-    if cell.cell_type != SpaceType::PHED {
-        return gather_within::<72, 6, 18, 36>(cell, plane, tol, out);
+    match Size::of(cell) {
+        Size::Fixed => gather_within::<72, 6, 18, 36>(cell, plane, tol, out),
+        Size::Small => gather_within::<264, 29, 396, 792>(cell, plane, tol, out),
+        Size::Large => gather_within::<768, 85, 1152, 2304>(cell, plane, tol, out),
     }
-    if cell.conn.len() <= 88 {
-        return gather_within::<264, 29, 396, 792>(cell, plane, tol, out);
-    }
-    gather_within::<768, 85, 1152, 2304>(cell, plane, tol, out)
 }
 
 // The same with scratch for so many numbers of corners, for so many faces, and for so many numbers of one face's clipped points and of
 // its segments. Not inlined, so that a small cell's frame has no large scratch in it.
 #[inline(never)]
 fn gather_within<const CORNERS: usize, const FACES: usize, const POINTS: usize, const SPACE: usize>(
-    cell: &Cell,
+    cell: &SpaceCell,
     plane: Plane,
     tol: f64,
     out: &mut [f64],
 ) -> Found
-    requires { CanGather (cell_of cell.now) out.old × CellFits CORNERS FACES POINTS SPACE (cell_of cell.now)
+    requires { (6 * cell.now.corners ≤ length out.old) × CellFits CORNERS FACES POINTS SPACE (cell_of cell.now.cell)
         × (CORNERS ≤ 768) × (FACES ≤ 85) × (POINTS ≤ 1152) × (SPACE ≤ 2304) }
-    ensures { CellCut (cut_by plane tol) plane (polygons_of (space_cell (cell_of cell.now))) out.old
+    ensures { CellCut (cut_by plane tol) plane (polygons_of (space_cell (cell_of cell.now.cell))) out.old
         result out.new }
 {
     let mut corners = [0.0; CORNERS];
     let mut face_ends = [0; FACES];
     let mut points = [0.0; POINTS];
     let mut space = [0.0; SPACE];
-    let kept = cell.copy_in_space(&mut corners, &mut face_ends);
+    let kept = cell.copy(&mut corners, &mut face_ends);
     clip::cell_segments(
         &corners,
         &face_ends[..kept.faces],
@@ -113,40 +133,38 @@ fn gather_within<const CORNERS: usize, const FACES: usize, const POINTS: usize, 
 
 // The section of an accepted cell by a plane: its segments, stitched.
 pub fn section_cell(
-    cell: &Cell,
+    cell: &SpaceCell,
     plane: Plane,
     tol: f64,
     numbers: &mut [f64],
     nodes: &mut [u32],
     ends: &mut [u32],
 ) -> Stitched
-    requires { CanSection (cell_of cell.now) numbers.old nodes.old ends.old }
-    ensures { SectionGiven plane tol (polygons_of (space_cell (cell_of cell.now))) result
+    requires { Roomy cell.now.corners numbers.old nodes.old ends.old }
+    ensures { SectionGiven plane tol (polygons_of (space_cell (cell_of cell.now.cell))) result
         (buffers numbers.old nodes.old ends.old)
         (buffers numbers.new nodes.new ends.new) }
 {
-    if cell.cell_type != SpaceType::PHED {
-        return section_within::<144>(cell, plane, tol, numbers, nodes, ends);
+    match Size::of(cell) {
+        Size::Fixed => section_within::<144>(cell, plane, tol, numbers, nodes, ends),
+        Size::Small => section_within::<528>(cell, plane, tol, numbers, nodes, ends),
+        Size::Large => section_within::<1536>(cell, plane, tol, numbers, nodes, ends),
     }
-    if cell.conn.len() <= 88 {
-        return section_within::<528>(cell, plane, tol, numbers, nodes, ends);
-    }
-    section_within::<1536>(cell, plane, tol, numbers, nodes, ends)
 }
 
 // The same with scratch for so many numbers of segments. Not inlined, for the same reason.
 #[inline(never)]
 fn section_within<const SEGMENTS: usize>(
-    cell: &Cell,
+    cell: &SpaceCell,
     plane: Plane,
     tol: f64,
     numbers: &mut [f64],
     nodes: &mut [u32],
     ends: &mut [u32],
 ) -> Stitched
-    requires { CanSection (cell_of cell.now) numbers.old nodes.old ends.old × (SEGMENTS ≤ 1536)
-        × (6 * corners_of (space_cell (cell_of cell.now)) ≤ SEGMENTS) }
-    ensures { SectionGiven plane tol (polygons_of (space_cell (cell_of cell.now))) result
+    requires { Roomy cell.now.corners numbers.old nodes.old ends.old × (SEGMENTS ≤ 1536)
+        × (6 * cell.now.corners ≤ SEGMENTS) }
+    ensures { SectionGiven plane tol (polygons_of (space_cell (cell_of cell.now.cell))) result
         (buffers numbers.old nodes.old ends.old)
         (buffers numbers.new nodes.new ends.new) }
 {

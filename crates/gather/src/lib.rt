@@ -24,10 +24,10 @@ pub fn gather_cell_by_plane(
         (gather_cut (cell_of cell.now) (through_of through.now) tol (length numbers.old))
         (line_told result) numbers.old numbers.new }
 {
-    let corners = cell.test_in_space()?;
+    let accepted = cell.in_space()?;
     let plane = through.place(Way::Normal)?;
-    if 6 * corners > numbers.len() {
+    if 6 * accepted.corners > numbers.len() {
         return Err(Refusal::ShortBuffer);
     }
-    Ok(cuts::gather_cell(cell, plane, tol, numbers))
+    Ok(cuts::gather_cell(&accepted, plane, tol, numbers))
 }

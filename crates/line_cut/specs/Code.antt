@@ -3,7 +3,7 @@ use Rattle.std.specs.Prelude.{List, [], ◌∷◌, map, ℕ, ◌*◌, ◌/◌, �
 use Rattle.vector.specs.Vector.{Vector}
 use Rattle.vector.specs.declared.Plane.{Plane}
 use Rattle.vector.specs.Rows.{Seg}
-use Rattle.cell.specs.Read.{Polygon, Cell, space_cell, corners_of, Accepted}
+use Rattle.cell.specs.Read.{Polygon}
 use Rattle.clip.specs.Cell.{at_most}
 use Rattle.clip.specs.Code.{Segments}
 use Rattle.clip.specs.declared.Found.{Found}
@@ -11,11 +11,6 @@ use Rattle.cuts.specs.Cuts.{section_of}
 use Rattle.walk.specs.Code.{Below}
 use Rattle.stitch.specs.Code.{cut}
 use Rattle.line_cut.specs.LineCut.{line_of_section, loops_segments, segment_on_line}
-
--- what the work on an accepted cell needs: room for its segments
-pub record CanLine (k : Cell) (numbers : List Float) : Type 0 where
-  pub accepted : Accepted (space_cell k)
-  pub room : 14 * corners_of (space_cell k) ≤ length numbers
 
 -- scratch holds the section of a cell of m face corners, in a numbers, b nodes and c ends, and the polygon of a loop of it, its clipped
 -- points and its segments, in p, q and r numbers

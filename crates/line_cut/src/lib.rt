@@ -3,7 +3,7 @@
 
 ghost use Rattle.std.specs.Prelude.{◌≡◌, ◌++◌, map, ◌*◌, ◌+◌, ◌≤◌, length};
 ghost use Rattle.vector.specs.Rows.{rows, segs};
-ghost use Rattle.cell.specs.Read.{cell_of, corners_of, polygons_of, space_cell};
+ghost use Rattle.cell.specs.Read.{cell_of, polygons_of, space_cell};
 ghost use Rattle.clip.specs.Cell.{at_most};
 ghost use Rattle.clip.specs.Code.{Points, Segments};
 ghost use Rattle.clip.specs.View.{cut_of};
@@ -12,13 +12,13 @@ ghost use Rattle.walk.specs.Walk.{point_at};
 ghost use Rattle.cuts.specs.Code.{through_of};
 ghost use Rattle.cuts.specs.Lines.{GaveLine, line_told};
 ghost use Rattle.line_cut.specs.LineCut.{axis, line_cut, loop_segments, on_line, segment_on_line};
-ghost use Rattle.line_cut.specs.Code.{CanCutLoop, CanCutLoops, CanLine, LineFits, LineGiven, LoopCut, on_line_of};
+ghost use Rattle.line_cut.specs.Code.{CanCutLoop, CanCutLoops, LineFits, LineGiven, LoopCut, on_line_of};
 
 use cell::Cell;
-use cell::types::SpaceType;
+use cell::accepted::SpaceCell;
 use clip::Found;
 use clip::polygon::{Cut, plane_section_segments};
-use cuts::{Through, Way};
+use cuts::{Size, Through, Way};
 use rows::Refusal;
 use vector::{Plane, coord, plus, put, scaled};
 
@@ -36,24 +36,24 @@ pub fn slice_line_3d(
         (line_cut (cell_of cell.now) (through_of through.now) tol (length numbers.old))
         (line_told result) numbers.old numbers.new }
 {
-    let corners = cell.test_in_space()?;
+    let accepted = cell.in_space()?;
     let plane = through.place(Way::Direction)?;
-    if 14 * corners > numbers.len() {
+    if 14 * accepted.corners > numbers.len() {
         return Err(Refusal::ShortBuffer);
     }
-    Ok(line_cell(cell, plane, tol, numbers))
+    Ok(line_cell(&accepted, plane, tol, numbers))
 }
 
 // The cut of an accepted cell by the line y = 0 of a plane.
-fn line_cell(cell: &Cell, plane: Plane, tol: f64, numbers: &mut [f64]) -> Found
-    requires { CanLine (cell_of cell.now) numbers.old }
-    ensures { LineGiven plane tol (polygons_of (space_cell (cell_of cell.now))) numbers.old result
+fn line_cell(cell: &SpaceCell, plane: Plane, tol: f64, numbers: &mut [f64]) -> Found
+    requires { 14 * cell.now.corners ≤ length numbers.old }
+    ensures { LineGiven plane tol (polygons_of (space_cell (cell_of cell.now.cell))) numbers.old result
         numbers.new }
 {
-    if cell.cell_type != SpaceType::PHED {
-        return line_within::<144, 36, 12, 72, 108, 216>(cell, plane, tol, numbers);
+    match Size::of(cell) {
+        Size::Fixed => line_within::<144, 36, 12, 72, 108, 216>(cell, plane, tol, numbers),
+        _ => line_within::<1536, 384, 128, 768, 1152, 2304>(cell, plane, tol, numbers),
     }
-    line_within::<1536, 384, 128, 768, 1152, 2304>(cell, plane, tol, numbers)
 }
 
 // The section of a cell by the plane, and each of its loops cut by y = 0, with scratch for a section of so many numbers, nodes and ends,
@@ -67,11 +67,11 @@ fn line_within<
     const POLYGON: usize,
     const CLIPPED: usize,
     const FLAT: usize,
->(cell: &Cell, plane: Plane, tol: f64, numbers: &mut [f64]) -> Found
-    requires { CanLine (cell_of cell.now) numbers.old
-        × LineFits NUMBERS NODES ENDS POLYGON CLIPPED FLAT (corners_of (space_cell (cell_of cell.now)))
+>(cell: &SpaceCell, plane: Plane, tol: f64, numbers: &mut [f64]) -> Found
+    requires { (14 * cell.now.corners ≤ length numbers.old)
+        × LineFits NUMBERS NODES ENDS POLYGON CLIPPED FLAT cell.now.corners
         × (NUMBERS ≤ 1536) × (NODES ≤ 384) × (ENDS ≤ 128) × (POLYGON ≤ 768) × (CLIPPED ≤ 1152) × (FLAT ≤ 2304) }
-    ensures { LineGiven plane tol (polygons_of (space_cell (cell_of cell.now))) numbers.old result
+    ensures { LineGiven plane tol (polygons_of (space_cell (cell_of cell.now.cell))) numbers.old result
         numbers.new }
 {
     let mut points = [0.0; NUMBERS];

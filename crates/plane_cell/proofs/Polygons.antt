@@ -10,7 +10,8 @@ use Rattle.vector.specs.Rows.{rows, over}
 use Rattle.vector.proofs.Rows.{segs_length}
 use Rattle.cell.specs.Types.{plane_corners}
 use Rattle.cell.specs.Faces.{from}
-use Rattle.cell.specs.Read.{corner, Polygon, Cell, plane_cell, polygons_of, corners_of, Accepted, CopiedPolygon}
+use Rattle.cell.specs.declared.accepted.PlaneCell.{PlaneCell}
+use Rattle.cell.specs.Read.{corner, Polygon, Cell, cell_of, plane_cell, polygons_of, corners_of, Accepted, CopiedPolygon}
 use Rattle.cell.proofs.Answers.{plane_read}
 use Rattle.cell.proofs.Bounds.{plane_bounded}
 use Rattle.clip.specs.Clip.{Cut, plane_section_segments}
@@ -44,6 +45,14 @@ few_segments k ps r l =
     let o = one_polygon k ps r in
     let e : polygon_segments l ps ≡ plane_section_segments l o.polygon = ap (polygon_segments l) o.is in
     omega (arith, ap length e, section_bound l o.polygon, ap length (in_one o), few_corners k ps r)
+
+-- what an accepted cell has, told of the cell that was tested
+module _ (k : PlaneCell) {j : Cell} (e : cell_of k.cell ≡ j) where
+  pub is_accepted : Accepted (plane_cell j)
+  is_accepted = subst (λ j. Accepted (plane_cell j)) e k.accepted
+
+  pub counted : k.corners ≡ corners_of (plane_cell j)
+  counted = subst (λ j. k.corners ≡ corners_of (plane_cell j)) e k.count
 
 -- the copy of the corners, read back
 pub copied_segments : (k : Cell) (a : Accepted (plane_cell k)) {n : ℕ} {out out' : List Float} → n ≡ corners_of (plane_cell k)

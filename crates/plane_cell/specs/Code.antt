@@ -1,9 +1,9 @@
 -- What the clauses of the code cite. Definitions only.
-use Rattle.std.specs.Prelude.{◌≡◌, List, ℕ, ◌*◌, ◌≤◌, length, Float, Result, Ok, Err}
+use Rattle.std.specs.Prelude.{List, Float, Result, Ok, Err}
 use Rattle.rows.specs.Outcome.{Outcome, refused, found}
 use Rattle.rows.specs.Refusals.{number}
 use Rattle.rows.specs.declared.Refusal.{Refusal}
-use Rattle.cell.specs.Read.{Polygon, Cell, plane_cell, corners_of, Accepted}
+use Rattle.cell.specs.Read.{Polygon}
 use Rattle.clip.specs.Clip.{Cut}
 use Rattle.clip.specs.Code.{Segments}
 use Rattle.clip.specs.View.{cut_of}
@@ -15,12 +15,6 @@ use Rattle.plane_cell.specs.PlaneCell.{polygon_segments}
 abbrev pub cutting : Result (code.Cut 2) Refusal → Outcome Cut
 cutting (Err refusal) = refused (number refusal)
 cutting (Ok x) = found (cut_of x)
-
--- what the work on an accepted cell needs: the number of its corners, and room for its segments
-pub record CanCut (k : Cell) (n : ℕ) (numbers : List Float) : Type 0 where
-  pub accepted : Accepted (plane_cell k)
-  pub corners : n ≡ corners_of (plane_cell k)
-  pub room : 6 * n ≤ length numbers
 
 -- the segments of a cell's one polygon are given
 pub record PolygonCut (l : Cut) (ps : List Polygon) (xs : List Float) (r : Found) (zs : List Float) : Type 0 where

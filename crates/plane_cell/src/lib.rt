@@ -8,9 +8,10 @@ ghost use Rattle.clip.specs.View.{cut_of};
 ghost use Rattle.cuts.specs.Code.{through_of};
 ghost use Rattle.cuts.specs.Lines.{GaveLine, line_told};
 ghost use Rattle.plane_cell.specs.PlaneCell.{line_through, normal_by, plane_cell_cut};
-ghost use Rattle.plane_cell.specs.Code.{CanCut, PolygonCut, cutting};
+ghost use Rattle.plane_cell.specs.Code.{PolygonCut, cutting};
 
 use cell::Cell;
+use cell::accepted::PlaneCell;
 use clip::Found;
 use clip::polygon::{Cut, plane_section_segments};
 use cuts::{Through, Way};
@@ -29,12 +30,12 @@ pub fn slice_2d(
         (plane_cell_cut way (cell_of cell.now) (through_of through.now) tol (length numbers.old))
         (line_told result) numbers.old numbers.new }
 {
-    let corners = cell.test_in_plane()?;
+    let accepted = cell.in_plane()?;
     let cut = place(way, through, tol)?;
-    if 6 * corners > numbers.len() {
+    if 6 * accepted.corners > numbers.len() {
         return Err(Refusal::ShortBuffer);
     }
-    Ok(line_cell(cell, corners, &cut, numbers))
+    Ok(line_cell(&accepted, &cut, numbers))
 }
 
 // The line through origin with this normal or direction, or refusal 5 or 6.
@@ -60,34 +61,33 @@ fn normal_by(way: Way, vector: [f64; 2]) -> Option<[f64; 2]>
     }
 }
 
-// The segments of an accepted cell of n corners on a line. Scratch comes in two sizes.
-fn line_cell(cell: &Cell, n: usize, cut: &Cut<2>, numbers: &mut [f64]) -> Found
-    requires { CanCut (cell_of cell.now) n numbers.old }
-    ensures { PolygonCut (cut_of cut.now) (polygons_of (plane_cell (cell_of cell.now))) numbers.old
+// The segments of an accepted cell on a line. Scratch comes in two sizes.
+fn line_cell(cell: &PlaneCell, cut: &Cut<2>, numbers: &mut [f64]) -> Found
+    requires { 6 * cell.now.corners ≤ length numbers.old }
+    ensures { PolygonCut (cut_of cut.now) (polygons_of (plane_cell (cell_of cell.now.cell))) numbers.old
         result numbers.new }
 {
-    if n <= 4 {
-        return line_within::<8, 12>(cell, n, cut, numbers);
+    if cell.corners <= 4 {
+        return line_within::<8, 12>(cell, cut, numbers);
     }
-    line_within::<512, 768>(cell, n, cut, numbers)
+    line_within::<512, 768>(cell, cut, numbers)
 }
 
 // The same with scratch for so many numbers of corners and of clipped points. Not inlined, so that a small cell's frame has no large
 // scratch in it.
 #[inline(never)]
 fn line_within<const CORNERS: usize, const POINTS: usize>(
-    cell: &Cell,
-    n: usize,
+    cell: &PlaneCell,
     cut: &Cut<2>,
     numbers: &mut [f64],
 ) -> Found
-    requires { CanCut (cell_of cell.now) n numbers.old × (2 * n ≤ CORNERS) × (2 * at_most n ≤ POINTS)
-        × (CORNERS ≤ 512) × (POINTS ≤ 768) }
-    ensures { PolygonCut (cut_of cut.now) (polygons_of (plane_cell (cell_of cell.now))) numbers.old
+    requires { (6 * cell.now.corners ≤ length numbers.old) × (2 * cell.now.corners ≤ CORNERS)
+        × (2 * at_most cell.now.corners ≤ POINTS) × (CORNERS ≤ 512) × (POINTS ≤ 768) }
+    ensures { PolygonCut (cut_of cut.now) (polygons_of (plane_cell (cell_of cell.now.cell))) numbers.old
         result numbers.new }
 {
     let mut polygon = [0.0; CORNERS];
     let mut points = [0.0; POINTS];
-    cell.copy_in_plane(&mut polygon);
-    plane_section_segments(&polygon, n, cut, &mut points, numbers)
+    cell.copy(&mut polygon);
+    plane_section_segments(&polygon, cell.corners, cut, &mut points, numbers)
 }

@@ -1,6 +1,6 @@
 -- The theorems about the plane cut. Assumes nothing.
 use Rattle.std.specs.Prelude.{Some}
-use mathlib.Core.Path.{◌≡◌, ap, subst}
+use mathlib.Core.Path.{◌≡◌, ap}
 use mathlib.Core.Bool.{true}
 use mathlib.Core.List.{List, flatten}
 use Prim.Native.Nat.{ℕ, ◌*◌, ◌/◌, ◌≤◌}
@@ -12,12 +12,10 @@ use Rattle.rows.proofs.Outcomes.{sound_unless}
 use Rattle.vector.specs.Vector.{plane_of}
 use Rattle.vector.specs.declared.Plane.{Plane}
 use Rattle.cell.specs.Types.{shape_of, space_type}
-use Rattle.cell.specs.Read.{Polygon, Cell, space_cell, typed_in_space, Tested}
+use Rattle.cell.specs.Read.{Polygon, Cell, space_cell, typed_in_space}
 use Rattle.cell.specs.Claims.{CornersKept}
 use Rattle.cell.specs.declared.types.Shape.{Shape}
 use Rattle.cell.specs.declared.types.Shape.TheVariants.{Tet, Wedge, Hex, Phed}
-use Rattle.rows.specs.declared.Refusal.{Refusal}
-use Rattle.std.specs.Prelude.{Result, Ok}
 use Rattle.cell.proofs.Alike.{alike_in_space}
 use Rattle.cell.proofs.Bounds.{space_bounded}
 use Rattle.clip.specs.Cell.{at_most, corners, cut_by}
@@ -27,22 +25,20 @@ use Rattle.stitch.specs.Entry.{lengths, buffers, room}
 use Rattle.stitch.proofs.Claim.{claim}
 use Rattle.stitch.proofs.Entries.{fits, of_answer, small_answer, small_told}
 use Rattle.cuts.specs.Cuts.{cut_cell, place_in, section_of, segments_on}
-use Rattle.cuts.specs.Code.{CanSection, Roomy}
+use Rattle.cuts.specs.Code.{Roomy}
 use Rattle.cuts.specs.declared.Way.TheVariants.{Normal}
-use Rattle.cuts.proofs.Cutting.{corners_told, cut_sound, was_accepted}
+use Rattle.cuts.proofs.Cutting.{cut_sound}
 use Rattle.cuts.proofs.Placed.{place_sound}
 use Rattle.cuts.proofs.Sizes.{corners_in_all, found_few}
 use Rattle.plane_cut.specs.PlaneCut.{AlikeByPlane, PlaneClaim, PlaneSection, PlaneSmall, PlaneSound, SegmentsBounded}
 use Rattle.plane_cut.specs.PlaneCut.{most_segments, plane_cut, section_in}
 
--- what the work on a cell that was tested needs is there
-pub can_section : (k : Cell) {r : Result ℕ Refusal} (h : Tested (space_cell k) r) {m : ℕ} (e : r ≡ Ok m) (numbers : List Float) (nodes ends :
-    List ℕ)
-    → room (6 * m) (3 * m / 2) (m / 2) (lengths (buffers numbers nodes ends)) ≡ true → CanSection k numbers nodes ends
-can_section k h {m} e numbers nodes ends w =
+-- there is room
+pub roomy : {m : ℕ} (numbers : List Float) (nodes ends : List ℕ) → room (6 * m) (3 * m / 2) (m / 2) (lengths (buffers numbers nodes ends)) ≡ true
+    → Roomy m numbers nodes ends
+roomy {m} numbers nodes ends w =
     let f = fits (6 * m) (3 * m / 2) (m / 2) (lengths (buffers numbers nodes ends)) w in
-    let r : Roomy m numbers nodes ends = record { for_numbers = f.0; for_nodes = f.1; for_ends = f.2 } in
-    record { accepted = was_accepted h e; roomy = subst (λ n. Roomy n numbers nodes ends) (corners_told h e) r }
+    record { for_numbers = f.0; for_nodes = f.1; for_ends = f.2 }
 
 -- ---- how many segments
 

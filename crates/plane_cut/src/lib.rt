@@ -28,7 +28,8 @@ pub fn section_cell_by_plane(
         (section_told result) (buffers numbers.old nodes.old ends.old)
         (buffers numbers.new nodes.new ends.new) }
 {
-    let corners = cell.test_in_space()?;
+    let accepted = cell.in_space()?;
+    let corners = accepted.corners;
     let plane = through.place(Way::Normal)?;
     if !room(
         6 * corners,
@@ -40,5 +41,5 @@ pub fn section_cell_by_plane(
     ) {
         return Err(Refusal::ShortBuffer);
     }
-    Ok(cuts::section_cell(cell, plane, tol, numbers, nodes, ends))
+    Ok(cuts::section_cell(&accepted, plane, tol, numbers, nodes, ends))
 }

@@ -6,6 +6,7 @@ use Rattle.plane_cell.proofs.line_cell.Goals as goal
 
 pub line_within-requires-2 : goal.line_within-requires-2
 line_within-requires-2 c =
-    let few = few_corners (cell_of c.args.cell.now) _ c.requires.accepted in
-    let m = c.requires.corners in
+    let k = c.args.cell.now in
+    let few = few_corners (cell_of k.cell) _ k.accepted in
+    let m = k.count in
     (c.requires, omega arith, omega arith, omega arith, omega arith)

@@ -7,8 +7,8 @@ use Rattle.plane_cell.proofs.line_within.Goals as goal
 
 pub returns : goal.returns
 returns d c =
+    let k = c.args.cell.now in
     record {
       segments =
-          segments_same (copied_segments (cell_of c.args.cell.now) c.requires.0.accepted c.requires.0.corners c.copy_in_plane.ensures (cut_of c.args.cut.now))
-          c.plane_section_segments.ensures.segments;
+          segments_same (copied_segments (cell_of k.cell) k.accepted k.count c.copy.ensures (cut_of c.args.cut.now)) c.plane_section_segments.ensures.segments;
     }

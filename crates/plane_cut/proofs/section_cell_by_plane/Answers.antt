@@ -5,51 +5,54 @@ use native.Mathlib.Omega.{arith}
 use Rattle.std.proofs.lemmas.Result.{err_from_is_err_and}
 use Rattle.rows.proofs.Outcomes.{test_failed, test_passed}
 use Rattle.rows.specs.Refusals.{outcome_of}
-use Rattle.cell.specs.Read.{cell_of}
 use Rattle.stitch.specs.Entry.{buffers, lengths}
 use Rattle.stitch.proofs.Entries.{gave_refusal, gave_section}
 use Rattle.cuts.specs.Cuts.{place_in}
 use Rattle.cuts.specs.Code.{through_of}
 use Rattle.cuts.specs.declared.Way.TheVariants.{Normal}
-use Rattle.cuts.proofs.Cutting.{at_work, cell_refused, corners_few, place_refused}
-use Rattle.plane_cut.specs.PlaneCut.{section_in}
-use Rattle.plane_cut.proofs.Claims.{can_section}
+use Rattle.cuts.proofs.Cutting.{at_work, cell_refused, corners_few, counted, is_accepted, place_refused}
+use Rattle.plane_cut.specs.PlaneCut.{plane_cut, section_in}
+use Rattle.plane_cut.proofs.Claims.{roomy}
 use Rattle.plane_cut.proofs.section_cell_by_plane.Goals as goal
 
-pub returns-in_err-corners : goal.returns-in_err-corners
-returns-in_err-corners c =
+pub returns-in_err-accepted : goal.returns-in_err-accepted
+returns-in_err-accepted c =
     let g = c.args in
     let p = err_from_is_err_and c.from_residual.result c.from_residual.ensures.1 in
     rw (p.1, p.2)
-    (gave_refusal _ (cell_refused c.test_in_space.ensures (place_in Normal (through_of g.through.now))
-    (section_in g.tol (lengths (buffers g.numbers.now g.nodes.now g.ends.now))) c.in_err-corners.was))
+    (gave_refusal _ (cell_refused (place_in Normal (through_of g.through.now))
+    (section_in g.tol (lengths (buffers g.numbers.now g.nodes.now g.ends.now))) c.in_err-accepted.ensures))
 
 pub returns-in_err-plane : goal.returns-in_err-plane
 returns-in_err-plane c =
     let g = c.args in
+    let k = c.in_ok-accepted in
     let p = err_from_is_err_and c.from_residual-in_err-plane.result c.from_residual-in_err-plane.ensures.1 in
     rw (p.1, p.2)
-    (gave_refusal _ (place_refused c.test_in_space.ensures c.in_ok-corners.was
+    (gave_refusal _ (place_refused (is_accepted k.accepted k.ensures) (counted k.accepted k.ensures)
     (section_in g.tol (lengths (buffers g.numbers.now g.nodes.now g.ends.now))) (sym c.in_err-plane.ensures)))
 
 pub overflow_mul-corners : goal.overflow_mul-corners
-overflow_mul-corners c = omega (arith, corners_few (cell_of c.args.cell.now) c.test_in_space.ensures c.in_ok-corners.was)
+overflow_mul-corners c = omega (arith, corners_few c.in_ok-accepted.accepted)
 
 pub overflow_mul-corners-2 : goal.overflow_mul-corners-2
-overflow_mul-corners-2 c = omega (arith, corners_few (cell_of c.args.cell.now) c.test_in_space.ensures c.in_ok-corners.was)
+overflow_mul-corners-2 c = omega (arith, corners_few c.in_ok-accepted.accepted)
 
 pub returns-then-not-room : goal.returns-then-not-room
 returns-then-not-room c =
     let g = c.args in
-    gave_refusal _ (at_work c.test_in_space.ensures c.in_ok-corners.was (section_in g.tol (lengths (buffers g.numbers.now g.nodes.now g.ends.now)))
+    let k = c.in_ok-accepted in
+    gave_refusal _ (at_work (is_accepted k.accepted k.ensures) (counted k.accepted k.ensures)
+    (section_in g.tol (lengths (buffers g.numbers.now g.nodes.now g.ends.now)))
     (sym c.place.ensures ∙ ap outcome_of c.in_ok-plane.was) (test_failed 7 _ _ (sym c.room.ensures ∙ c.if-not-room.true)))
 
 pub section_cell-requires : goal.section_cell-requires
-section_cell-requires c =
-    can_section (cell_of c.args.cell.now) c.test_in_space.ensures c.in_ok-corners.was _ _ _ (sym c.room.ensures ∙ c.if-not-room.false)
+section_cell-requires c = roomy _ _ _ (sym c.room.ensures ∙ c.if-not-room.false)
 
 pub returns : goal.returns
 returns c =
     let g = c.args in
-    gave_section (at_work c.test_in_space.ensures c.in_ok-corners.was (section_in g.tol (lengths (buffers g.numbers.now g.nodes.now g.ends.now)))
+    let k = c.in_ok-accepted in
+    let room = lengths (buffers g.numbers.now g.nodes.now g.ends.now) in
+    gave_section (ap (λ j. plane_cut j (through_of g.through.now) g.tol room) (sym k.ensures) ∙ at_work k.accepted.accepted k.accepted.count (section_in g.tol room)
     (sym c.place.ensures ∙ ap outcome_of c.in_ok-plane.was) (test_passed 7 _ _ (sym c.room.ensures ∙ c.if-not-room.false))) c.section_cell.ensures.stitched

@@ -3,7 +3,7 @@ use mathlib.Core.Path.{refl}
 use mathlib.Core.List.{flatten}
 use Rattle.rows.specs.Rows.{ends_from}
 use Rattle.cell.specs.Faces.{tet, wedge, hex}
-use Rattle.cell.proofs.Accepted.{puts}
+use Rattle.cell.proofs.Told.{puts}
 use Rattle.cell.proofs.Cell.copy_faces.Goals as goal
 
 pub put_faces-requires : goal.put_faces-requires

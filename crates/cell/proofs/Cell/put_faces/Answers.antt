@@ -3,7 +3,7 @@ use mathlib.Core.Path.{ap}
 use mathlib.Core.List.{◌++◌}
 use lib.ListN.{length, drop}
 use Rattle.cell.specs.Read.{cell_of}
-use Rattle.cell.proofs.Accepted.{copied}
+use Rattle.cell.proofs.Told.{copied}
 use Rattle.cell.proofs.Cell.put_faces.Goals as goal
 
 pub returns : goal.returns

@@ -7,19 +7,19 @@ use Prim.Native.Nat.{ℕ, ◌*◌, ◌≤◌}
 use native.Mathlib.Omega.{arith}
 use lib.Ieee.{Float}
 use lib.ListN.{length}
-use Rattle.std.proofs.Common.{Option, Some, None, Result, Ok, Err}
-use Rattle.std.specs.Prelude.{ok_or, IsOk}
-use Rattle.std.specs.Result.{IsErrAnd}
+use Rattle.std.proofs.Common.{Option, Some, None, Ok, Err}
+use Rattle.std.specs.Prelude.{ok_or}
 use Rattle.rows.specs.Rows.{over}
 use Rattle.rows.specs.Outcome.{Outcome, refused, found, and_then, unless}
 use Rattle.rows.proofs.Lists.{flatten_map, ends_map, length_ends}
+use Rattle.rows.proofs.Outcomes.{never_both}
 use Rattle.cell.specs.Types.{allow, space_nodes, space_type, shape_of, plane_nodes, plane_type, plane_corners}
 use Rattle.cell.specs.Faces.{Face, faces_of, polygon_of}
-use Rattle.cell.specs.Read.{corner, are_rows, polygons, Polygon, Typed, untyped, typed, read_as, Tested, Cell, space_cell, plane_cell}
+use Rattle.cell.specs.Read.{corner, are_rows, polygons, Polygon, Typed, untyped, typed, read_as, Cell, space_cell, plane_cell}
 use Rattle.cell.specs.Read.{polygons_of, corners_of, face_count, Accepted, Copied, CopiedPolygon}
 use Rattle.cell.specs.Code.{gathered, rows_tested, corners_tested, Testable}
 use Rattle.cell.specs.Code.{Copies, CopiesFaces, Lists, PutsFaces}
-use Rattle.rows.specs.Refusals.{number, outcome_of}
+use Rattle.rows.specs.Refusals.{number}
 use Rattle.rows.specs.declared.Refusal.{Refusal}
 use Rattle.rows.specs.declared.Refusal.TheVariants.{CellType}
 use Rattle.cell.specs.declared.FaceList.{FaceList}
@@ -38,31 +38,21 @@ unknown : {A : Type 0} {o : Option A} {e : Refusal} → Err e ≡ ok_or o CellTy
 unknown {o = None} h = (refl, cc)
 unknown {o = Some a} h = cc
 
-known : {A : Type 0} {o : Option A} {a : A} → Ok a ≡ ok_or o CellType → o ≡ Some a
+pub known : {A : Type 0} {o : Option A} {a : A} → Ok a ≡ ok_or o CellType → o ≡ Some a
 known {o = None} h = cc
 known {o = Some a} h = cc
 
-pub is_known : {A : Type 0} {o : Option A} {a : A} → o ≡ Some a → IsOk (ok_or o CellType)
-is_known e = rw e
-
-same : {A : Type 0} {a b : A} {o : Option A} → o ≡ Some a → Ok b ≡ ok_or o CellType → a ≡ b
-same e h = let k = known h in cc
+same : {A : Type 0} {a b : A} {o : Option A} → o ≡ Some a → o ≡ Some b → a ≡ b
+same e h = cc
 
 -- ---- the test
 
--- the refusal that a step makes is told
-refused_as : (o : Outcome (List Polygon)) (e : Refusal) (r : Result ℕ Refusal) → o ≡ refused (number e) → IsErrAnd r (λ x. x ≡ e) → Tested o r
-refused_as o e (Ok m) h p = absurd p
-refused_as o e (Err x) h p = rw (h, ← p) (record { tells = refl })
-
 module _ {A : Type 0} (w : ℕ) (told : Option A → Typed) (o : Option A) (k : Cell) where
   -- 1
-  pub type_told : {e : Refusal} {r : Result ℕ Refusal} → told None ≡ untyped → Err e ≡ ok_or o CellType → IsErrAnd r (λ x. x ≡ e)
-      → Tested (read_as w (told o) k.conn k.coords) r
-  type_told u h p =
+  pub type_refused : {e : Refusal} → told None ≡ untyped → Err e ≡ ok_or o CellType → read_as w (told o) k.conn k.coords ≡ refused (number e)
+  type_refused u h =
       let t = unknown h in
-      refused_as _ _ _
-      (ap (λ o. read_as w (told o) k.conn k.coords) t.0 ∙ unknown_type w k.conn k.coords _ u ∙ ap (λ e. refused (number e)) (sym t.1)) p
+      ap (λ o. read_as w (told o) k.conn k.coords) t.0 ∙ unknown_type w k.conn k.coords _ u ∙ ap (λ e. refused (number e)) (sym t.1)
 
   module _ {a : A} (h : Ok a ≡ ok_or o CellType) (n : Nodes) (faces : List ℕ → List Face) (d : told (Some a) ≡ typed n faces) where
     abbrev next : ℕ → Outcome (List Polygon)
@@ -74,19 +64,28 @@ module _ {A : Type 0} (w : ℕ) (told : Option A → Typed) (o : Option A) (k : 
         ∙ ap (λ c. and_then c next) (sym e)
 
     -- 2 and 3
-    pub counts_told : (e : Refusal) {r : Result ℕ Refusal} → refused (number e) ≡ rows_tested w n k → IsErrAnd r (λ x. x ≡ e)
-        → Tested (read_as w (told o) k.conn k.coords) r
-    counts_told e h p = refused_as _ e _ (read_on _ h) p
+    pub counts_refused : (e : Refusal) → refused (number e) ≡ rows_tested w n k → read_as w (told o) k.conn k.coords ≡ refused (number e)
+    counts_refused e h = read_on _ h
 
-    -- 4 and the answer
-    pub faces_told : {m : ℕ} {r : Result ℕ Refusal} → found m ≡ rows_tested w n k → outcome_of r ≡ corners_tested k m (flatten (faces k.conn))
-        → Tested (read_as w (told o) k.conn k.coords) r
-    faces_told {m} h t = rw (read_on _ h) (record { tells = t ∙ by_test (are_rows k.conn m (flatten (faces k.conn))) })
-      where
-        by_test : (b : Bool) → unless 4 b (found (length (flatten (faces k.conn))))
-            ≡ and_then (unless 4 b (found (polygons w k.conn k.coords (faces k.conn)))) (λ ps. found (length (flatten ps)))
-        by_test true = ap found (polygons_size w k.conn k.coords (faces k.conn))
-        by_test false = refl
+    module _ {m : ℕ} (r : found m ≡ rows_tested w n k) where
+      -- 4
+      pub corners_refused : (e : Refusal) → refused (number e) ≡ corners_tested k m (flatten (faces k.conn))
+          → read_as w (told o) k.conn k.coords ≡ refused (number e)
+      corners_refused e t = read_on _ r ∙ by_test (are_rows k.conn m (flatten (faces k.conn))) _ _ t
+        where
+          by_test : (b : Bool) (c : ℕ) (ps : List Polygon) → refused (number e) ≡ unless 4 b (found c) → unless 4 b (found ps) ≡ refused (number e)
+          by_test true c ps h = absurd (never_both h)
+          by_test false c ps h = let q : number e ≡ 4 = cc in ap refused (sym q)
+
+      -- and the answer
+      pub taken : {c : ℕ} → found c ≡ corners_tested k m (flatten (faces k.conn))
+          → Accepted (read_as w (told o) k.conn k.coords) × (c ≡ corners_of (read_as w (told o) k.conn k.coords))
+      taken {c} t = rw (read_on _ r) (by_test (are_rows k.conn m (flatten (faces k.conn))) t)
+        where
+          by_test : (b : Bool) → found c ≡ unless 4 b (found (length (flatten (faces k.conn)))) → let o = unless 4 b (found (polygons w k.conn k.coords (faces k.conn))) in
+              Accepted o × (c ≡ corners_of o)
+          by_test true h = let q : c ≡ length (flatten (faces k.conn)) = cc in (refl, q ∙ polygons_size w k.conn k.coords (faces k.conn))
+          by_test false h = absurd (never_both (sym h))
 
 pub testable : (t : SpaceType) (k : Cell) → allow (space_nodes t) (length k.conn) ≡ true → Testable k (faces_of (shape_of t) k.conn)
 testable t k a = let z = space_sizes t (length k.conn) a in record { few = z.0; inside = inside t k.conn z.1 }
@@ -122,9 +121,9 @@ module _ (k : Cell) {fs : List Face} {l : FaceList} (h : Lists fs l) where
 
 -- ---- what an accepted cell brings along
 
-module _ (k : Cell) (a : Accepted (space_cell k)) (t : SpaceType) (e : Ok t ≡ ok_or (space_type k.cell_type) CellType) where
+module _ (k : Cell) (a : Accepted (space_cell k)) (t : SpaceType) (e : space_type k.cell_type ≡ Some t) where
   -- the type is the one that was read
-  space_passed : Passed 3 (space_nodes t) (faces_of (shape_of t)) k.conn k.coords (polygons_of (space_cell k))
+  pub space_passed : Passed 3 (space_nodes t) (faces_of (shape_of t)) k.conn k.coords (polygons_of (space_cell k))
   space_passed =
       let q = space_read k (polygons_of (space_cell k)) a in
       subst (λ t. Passed 3 (space_nodes t) (faces_of (shape_of t)) k.conn k.coords (polygons_of (space_cell k))) (same q.known e) q.passed
@@ -147,7 +146,7 @@ module _ (k : Cell) (a : Accepted (space_cell k)) (t : SpaceType) (e : Ok t ≡ 
   pub space_polygons : polygons 3 k.conn k.coords (faces_of (shape_of t) k.conn) ≡ polygons_of (space_cell k)
   space_polygons = sym space_passed.are
 
-module _ (k : Cell) (a : Accepted (plane_cell k)) (t : PlaneType) (e : Ok t ≡ ok_or (plane_type k.cell_type) CellType) where
+module _ (k : Cell) (a : Accepted (plane_cell k)) (t : PlaneType) (e : plane_type k.cell_type ≡ Some t) where
   plane_passed : Passed 2 (plane_nodes t) (λ c. polygon_of (plane_corners t (length c))) k.conn k.coords (polygons_of (plane_cell k))
   plane_passed =
       let q = plane_read k (polygons_of (plane_cell k)) a in
