@@ -7,6 +7,7 @@ use native.Mathlib.Omega.{arith}
 use borrow.Author.Tests.{eqb-true, leb-true, ltb-false}
 use lib.Dec.{eqb, ltb}
 use Rattle.std.proofs.Common.{Option, Some, None}
+use Rattle.std.proofs.lemmas.Bool.{cond_both}
 use lib.ListN.{length, length-append}
 use Rattle.cell.specs.Types.{allow, space_number, space_type, space_nodes, space_corners, shape_of, plane_nodes, plane_corners}
 use Rattle.cell.specs.Faces.{Face, separator, onto, stretches, kept, faces_of, polygon_of}
@@ -82,14 +83,6 @@ module _ (c : List ℕ) where
 
 -- ---- a type found by its number has that number
 
--- what a chain of tests by number gives
-by_number : {X : Type 0} (N : X → Type 0) (t n : ℕ) (k r : X) → (t ≡ n → N k) → N r → N (cond (eqb t n) k r)
-by_number N t n k r e h = either (eqb t n) refl
-  where
-    either : (b : Bool) → eqb t n ≡ b → N (cond b k r)
-    either true q = e (eqb-true t n q)
-    either false q = h
-
 abbrev InSpaceAs : ℕ → Option SpaceType → Type 0
 InSpaceAs t (Some k) = t ≡ space_number k
 InSpaceAs t None = Unit {0}
@@ -103,7 +96,7 @@ space_number_lem t k e =
     (next 18 (Some Phed) _ (λ e. e) tt)))))))
   where
     next : (n : ℕ) (k r : Option SpaceType) → (t ≡ n → InSpaceAs t k) → InSpaceAs t r → InSpaceAs t (cond (eqb t n) k r)
-    next = by_number (InSpaceAs t) t
+    next n k r e h = cond_both (eqb t n) k r (InSpaceAs t) (λ q. e (eqb-true t n q)) (λ q. h)
 
 -- ---- every type in the plane
 

@@ -4,18 +4,18 @@ use mathlib.Core.List.{List, [], ◌∷◌, ◌++◌, map, flatten, map-append}
 use mathlib.Core.Bool.{true, false, ◌&&◌}
 use Prim.Native.Nat.{ℕ, zero, suc, ◌+◌, ◌*◌, ◌/◌, ◌≤◌, ◌<◌}
 use native.Mathlib.Omega.{arith}
-use native.Mathlib.Nat.{mul-suc, mul-zero, mul-div-le, mul-le-mul_left}
+use native.Mathlib.Nat.{mul-suc, mul-zero, mul-div-le}
 use native.Mathlib.Numerals.{add-one}
 use borrow.Author.Tests.{lt-ltb, le-ltb}
 use lib.Dec.{T, ltb, ltb→lt}
 use lib.Ieee.{Float}
 use lib.Ieee.Fits.{and_l, and_r}
-use lib.ListN.{length, get_or, take, drop, length-append, length-drop, drop_of_length-le}
-use lib.Seq.{drop-cons, take-suc, length-take-le, paste}
-use Rattle.std.proofs.lemmas.List.{get_or-take, get_or-drop}
+use lib.ListN.{length, get_or, take, drop, length-append, drop_of_length-le}
+use lib.Seq.{drop-cons, take-suc, paste}
 use Rattle.rows.specs.Rows.{over, row}
 use Rattle.cell.specs.Read.{Cell, corner, are_rows}
 use Rattle.cell.specs.Code.{gathered}
+use Rattle.rows.proofs.Lists as lists
 use Rattle.rows.proofs.Lists.{flatten_snoc, over_more}
 
 -- ---- the test
@@ -49,21 +49,12 @@ row_at c r (p ∷ ps) (suc j) a h = row_at c r ps j (and_r (ltb (get_or c p 0) r
 
 -- ---- a row
 
-pub one_more : (w n m : ℕ) → n < m → w * n + w ≤ w * m
-one_more w n m h = let k : w * suc n ≤ w * m = mul-le-mul_left w h in omega (arith, mul-suc w n)
-
-pub row_size : (w : ℕ) (xs : List Float) (n : ℕ) → w * n + w ≤ length xs → length (row w xs n) ≡ w
-row_size w xs n h = length-take-le w (drop (w * n) xs) (omega (arith, length-drop (w * n) xs))
-
 module _ (w : ℕ) (xs : List Float) (n : ℕ) (h : n < length xs / w) where
   pub row_fits : w * n + w ≤ length xs
-  row_fits = omega (arith, one_more w n (length xs / w) h, mul-div-le (length xs) w)
+  row_fits = lists.row_fits w (length xs / w) h (mul-div-le (length xs) w)
 
   pub row_length : length (row w xs n) ≡ w
-  row_length = row_size w xs n row_fits
-
-pub row_entry : (w : ℕ) (xs : List Float) (n k : ℕ) (d : Float) → k < w → get_or (row w xs n) k d ≡ get_or xs (w * n + k) d
-row_entry w xs n k d h = rw (get_or-take, get_or-drop)
+  row_length = lists.row_length w xs n row_fits
 
 -- ---- the corners' rows, one after the other
 

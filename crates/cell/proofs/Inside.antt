@@ -1,10 +1,11 @@
 -- The positions of a cell's faces are positions of its connectivity, and those of a fixed type its corners. Assumes nothing.
 use mathlib.Core.List.{List, [], ◌∷◌, flatten}
-use mathlib.Core.Bool.{Bool, true, false, cond, ◌&&◌}
+use mathlib.Core.Bool.{Bool, true, false, cond}
 use Prim.Native.Nat.{ℕ, suc, ◌+◌, ◌≤◌, ◌<◌}
 use native.Mathlib.Omega.{arith}
 use lib.Dec.{T, eqb, ltb, ltb→lt}
 use lib.Ieee.Fits.{and_l, and_r}
+use lib.Lanes.{all_below}
 use Rattle.std.specs.List.{All}
 use Rattle.std.proofs.lemmas.List.Elements.{All-nil, All-cons, All-head, All-tail, All-append, All-weaker}
 use lib.ListN.{length}
@@ -48,18 +49,13 @@ each_kept n (f ∷ fs) a =
 -- ---- every type
 
 -- on a table the test computes
-all_below : ℕ → List ℕ → Bool
-all_below n [] = true
-all_below n (p ∷ ps) = ltb p n && all_below n ps
-
 decided : (n : ℕ) (ps : List ℕ) → T (all_below n ps) → Below n ps
-unfolding all_below
 decided n [] a = All-nil (λ p. p < n)
 decided n (p ∷ ps) a =
     All-cons (λ p. p < n) p ps (ltb→lt p n (and_l (ltb p n) (all_below n ps) a)) (decided n ps (and_r (ltb p n) (all_below n ps) a))
 
 pub among_corners : (k : SpaceType) (c : List ℕ) → Below (space_corners k (length c)) (flatten (faces_of (shape_of k) c))
-unfolding all_below flatten
+unfolding flatten
 among_corners Tet4 c = decided 4 (flatten tet) tt
 among_corners Tet10 c = decided 4 (flatten tet) tt
 among_corners Hex8 c = decided 8 (flatten hex) tt

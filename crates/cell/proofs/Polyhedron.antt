@@ -13,7 +13,8 @@ use lib.Seq.{drop-cons, take-suc-set, take-take, take_at, drop-length}
 use Rattle.rows.specs.Rows.{ends_from}
 use Rattle.cell.specs.Faces.{Face, separator, onto, stretches, kept}
 use Rattle.cell.specs.Code.{Listed}
-use Rattle.rows.proofs.Lists.{length_snoc, flatten_snoc, ends_snoc}
+use Rattle.std.proofs.lemmas.List.{length_push}
+use Rattle.rows.proofs.Lists.{flatten_snoc, ends_snoc}
 
 -- the open face's positions put in front of the stretches that follow
 abbrev on_all : Face → List Face → List Face
@@ -96,7 +97,7 @@ module _ (conn corners ends : List ℕ) (n s f i : ℕ) where
               ∙ ap (λ l. l ++ i ∷ []) p.written ∙ append_assoc (flatten g.done) g.cur (i ∷ []);
           places = p.places;
           start_is = p.start_is;
-          count_is = omega (arith, p.count_is, length_snoc g.cur i);
+          count_is = omega (arith, p.count_is, length_push g.cur i);
           low = omega (arith, p.low);
           within = omega arith;
           few = p.few;

@@ -8,6 +8,7 @@ use native.Mathlib.Omega.{arith}
 use lib.Ieee.{Float}
 use lib.ListN.{length}
 use Rattle.std.proofs.Common.{Option, Some, None, Ok, Err}
+use Rattle.std.proofs.lemmas.Option.{same_Some}
 use Rattle.std.specs.Prelude.{ok_or}
 use Rattle.rows.specs.Rows.{over}
 use Rattle.rows.specs.Outcome.{Outcome, refused, found, and_then, unless}
@@ -41,9 +42,6 @@ unknown {o = Some a} h = cc
 pub known : {A : Type 0} {o : Option A} {a : A} → Ok a ≡ ok_or o CellType → o ≡ Some a
 known {o = None} h = cc
 known {o = Some a} h = cc
-
-same : {A : Type 0} {a b : A} {o : Option A} → o ≡ Some a → o ≡ Some b → a ≡ b
-same e h = cc
 
 -- ---- the test
 
@@ -126,7 +124,7 @@ module _ (k : Cell) (a : Accepted (space_cell k)) (t : SpaceType) (e : space_typ
   pub space_passed : Passed 3 (space_nodes t) (faces_of (shape_of t)) k.conn k.coords (polygons_of (space_cell k))
   space_passed =
       let q = space_read k (polygons_of (space_cell k)) a in
-      subst (λ t. Passed 3 (space_nodes t) (faces_of (shape_of t)) k.conn k.coords (polygons_of (space_cell k))) (same q.known e) q.passed
+      subst (λ t. Passed 3 (space_nodes t) (faces_of (shape_of t)) k.conn k.coords (polygons_of (space_cell k))) (same_Some _ _ (sym q.known ∙ e)) q.passed
 
   pub copies_space : (out : List Float) (ends : List ℕ) → 3 * corners_of (space_cell k) ≤ length out
       → face_count (space_cell k) ≤ length ends → CopiesFaces k (faces_of (shape_of t) k.conn) out ends
@@ -150,7 +148,7 @@ module _ (k : Cell) (a : Accepted (plane_cell k)) (t : PlaneType) (e : plane_typ
   plane_passed : Passed 2 (plane_nodes t) (λ c. polygon_of (plane_corners t (length c))) k.conn k.coords (polygons_of (plane_cell k))
   plane_passed =
       let q = plane_read k (polygons_of (plane_cell k)) a in
-      subst (λ t. Passed 2 (plane_nodes t) (λ c. polygon_of (plane_corners t (length c))) k.conn k.coords (polygons_of (plane_cell k))) (same q.known e) q.passed
+      subst (λ t. Passed 2 (plane_nodes t) (λ c. polygon_of (plane_corners t (length c))) k.conn k.coords (polygons_of (plane_cell k))) (same_Some _ _ (sym q.known ∙ e)) q.passed
 
   pub plane_few_corners : plane_corners t (length k.conn) ≤ 256
   plane_few_corners = (plane_sizes t (length k.conn) plane_passed.allowed).1

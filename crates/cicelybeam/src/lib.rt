@@ -1,4 +1,5 @@
-// Cicelybeam as the crate cicelybeam_c gives it to C and Rust: thin functions over the proved entries.
+// Cicelybeam as the crate cicelybeam_c gives it to C and Rust: thin functions over the proved entries. For C, types and refusals are
+// numbers here, what a cut is given by stands one by one, and each way and each width has a function of its own.
 #![tactic(auto)]
 
 ghost use Rattle.std.specs.Prelude.{◌≡◌, ◌<◌, length};
@@ -6,7 +7,7 @@ ghost use Rattle.std.specs.Float.{binary64};
 ghost use Rattle.root.specs.Root.{sqrt_of};
 ghost use Rattle.rows.specs.Refusals.{outcome_of};
 ghost use Rattle.vector.specs.Tolerance.{told_tolerance, tolerance_of};
-ghost use Rattle.cell.specs.Read.{cell};
+ghost use Rattle.cell.specs.Read.{cell, cell_of};
 ghost use Rattle.stitch.specs.Entry.{Gave, Small, buffers, lengths, section_told, stitch_alone};
 ghost use Rattle.cuts.specs.Cuts.{through};
 ghost use Rattle.cuts.specs.Lines.{GaveLine, line_told};
@@ -52,6 +53,20 @@ pub struct Line {
 pub struct Tolerance {
     pub refusal: u32,
     pub value: f64,
+}
+
+impl From<Result<f64, Refusal>> for Tolerance {
+    ghost from_gives = { λ answer t. told_tolerance_in t ≡ told_tolerance (outcome_of answer) };
+
+    fn from(answer: Result<f64, Refusal>) -> Self {
+        match answer {
+            Ok(value) => Tolerance { refusal: 0, value },
+            Err(refusal) => Tolerance {
+                refusal: u32::from(refusal),
+                ..Tolerance::default()
+            },
+        }
+    }
 }
 
 // A space cell cut by a plane.
@@ -158,11 +173,7 @@ pub fn cicelybeam_plane_cell_by_normal(
         conn,
         coords,
     };
-    let through = Through {
-        origin,
-        vector: normal,
-    };
-    told_line(plane_cell::slice_2d(Way::Normal, &cell, &through, tol, numbers))
+    line_in_plane(Way::Normal, &cell, origin, normal, tol, numbers)
 }
 
 // A plane cell cut by a line that its direction gives.
@@ -185,11 +196,24 @@ pub fn cicelybeam_plane_cell_by_direction(
         conn,
         coords,
     };
-    let through = Through {
-        origin,
-        vector: direction,
-    };
-    told_line(plane_cell::slice_2d(Way::Direction, &cell, &through, tol, numbers))
+    line_in_plane(Way::Direction, &cell, origin, direction, tol, numbers)
+}
+
+// What a plane cell cut by a line tells.
+fn line_in_plane(
+    way: Way,
+    cell: &Cell,
+    origin: &[f64],
+    vector: &[f64],
+    tol: f64,
+    numbers: &mut [f64],
+) -> Line
+    ensures { GaveLine
+        (plane_cell_cut way (cell_of cell.now) (through origin.now vector.now) tol (length numbers.old))
+        (told_line_in result) numbers.old numbers.new }
+{
+    let through = Through { origin, vector };
+    told_line(plane_cell::slice_2d(way, cell, &through, tol, numbers))
 }
 
 // Stitching alone.
@@ -213,14 +237,14 @@ pub fn cicelybeam_stitch(
 pub fn cicelybeam_tolerance_in_space(coords: &[f64]) -> Tolerance
     ensures { told_tolerance_in result ≡ told_tolerance (tolerance_of 3 coords.now) }
 {
-    told_tolerance(vector::tolerance::<3>(coords))
+    vector::tolerance::<3>(coords).into()
 }
 
 // The tolerance of a mesh in the plane.
 pub fn cicelybeam_tolerance_in_plane(coords: &[f64]) -> Tolerance
     ensures { told_tolerance_in result ≡ told_tolerance (tolerance_of 2 coords.now) }
 {
-    told_tolerance(vector::tolerance::<2>(coords))
+    vector::tolerance::<2>(coords).into()
 }
 
 // The square root as IEEE 754 has it.
@@ -230,7 +254,7 @@ pub fn cicelybeam_sqrt(x: f64) -> f64
     root::sqrt(x)
 }
 
-// An answer as a C struct.
+// An answer as a C struct. `From` asks nothing, and this asks that the numbers fit 32 bits.
 fn told_section(answer: Result<Stitched, Refusal>) -> Section
     requires { Small (section_told answer) }
     ensures { told_in result ≡ section_told answer }
@@ -244,7 +268,7 @@ fn told_section(answer: Result<Stitched, Refusal>) -> Section
     }
 }
 
-// A section's numbers in 32 bits.
+// A section's numbers in 32 bits, which it asks as well.
 fn told_stitched(s: Stitched) -> Section
     requires { Small (record { refusal = 0; answer = s }) }
     ensures { told_in result ≡ record { refusal = 0; answer = s } }
@@ -261,7 +285,7 @@ fn told_stitched(s: Stitched) -> Section
     }
 }
 
-// A line section as a C struct.
+// A line section as a C struct. No `From` either: it asks that the number fits.
 fn told_line(answer: Result<Found, Refusal>) -> Line
     requires { (line_told answer).segments < 4294967296 }
     ensures { told_line_in result ≡ line_told answer }
@@ -274,19 +298,6 @@ fn told_line(answer: Result<Found, Refusal>) -> Line
         Err(refusal) => Line {
             refusal: u32::from(refusal),
             ..Line::default()
-        },
-    }
-}
-
-// A tolerance as a C struct.
-fn told_tolerance(answer: Result<f64, Refusal>) -> Tolerance
-    ensures { told_tolerance_in result ≡ told_tolerance (outcome_of answer) }
-{
-    match answer {
-        Ok(value) => Tolerance { refusal: 0, value },
-        Err(refusal) => Tolerance {
-            refusal: u32::from(refusal),
-            ..Tolerance::default()
         },
     }
 }

@@ -1,4 +1,5 @@
-// Cicelybeam for C and Rust: what the crate cicelybeam has, by the same names. A slice passes as a pointer and a length.
+// Cicelybeam for C and Rust: what the crate cicelybeam has, by the same names. A slice passes as a pointer and a length. An export has to
+// stand in the crate of the static library, which no program can use, so it repeats what the function that it calls promises.
 #![tactic(auto)]
 
 ghost use Rattle.std.specs.Prelude.{◌≡◌, length};

@@ -1,6 +1,6 @@
 -- Segments carried one by one from a buffer of w numbers an end to one of v, after those that stand there. Assumes nothing.
-use mathlib.Core.Path.{◌≡◌, refl, ap, ◌∙◌}
-use mathlib.Core.List.{List, [], ◌∷◌, ◌++◌, append_assoc, append-nil, map}
+use mathlib.Core.Path.{◌≡◌, ap, ◌∙◌}
+use mathlib.Core.List.{List, [], ◌∷◌, ◌++◌, append_assoc, map}
 use Prim.Native.Nat.{ℕ, ◌+◌, ◌*◌, ◌≤◌, ◌<◌}
 use native.Mathlib.Nat.{mul-le-mul_left}
 use native.Mathlib.Numerals.{add-one}
@@ -18,11 +18,6 @@ pub record Carrying (h : Seg → Seg) (w v k : ℕ) (ps : List Float) (m : ℕ) 
   pub listed : Segments v xs (segs v m xs ++ take i (map h (segs w k ps))) (m + i) zs
   pub same_length : length zs ≡ length xs
   pub within : i ≤ k
-
-pub carrying_start : (h : Seg → Seg) (w v k : ℕ) (ps : List Float) (m : ℕ) (xs : List Float) → Carrying h w v k ps m xs 0 xs
-carrying_start h w v k ps m xs =
-    let e : m + 0 ≡ m = omega arith in
-    record { listed = record { are = rw (e, append-nil (segs v m xs)); rest = refl }; same_length = refl; within = omega arith }
 
 count : (h : Seg → Seg) (w k : ℕ) (ps : List Float) → length (map h (segs w k ps)) ≡ k
 count h w k ps = length-map (segs w k ps) h ∙ segs_length w k ps

@@ -9,19 +9,20 @@ use native.Mathlib.Numerals.{add-one}
 use native.Mathlib.Omega.{arith}
 use lib.Dec.{ltb}
 use lib.Ieee.{Float, nan, binary64, mul, lt, le}
-use lib.ListN.{length, get_or, drop, length-append}
-use lib.Seq.{get_or-drop}
+use lib.ListN.{length, get_or, take, drop, length-append}
+use lib.Seq.{get_or-drop, take_all}
 use borrow.Author.Tests.{lt-ltb, le-ltb, eq-eqb, ne_eqb}
-use Rattle.root.proofs.Floor.{lt_or_le}
+use Rattle.std.proofs.lemmas.Bool.{cases_lt}
 use Rattle.vector.specs.Vector.{Vector, diff, dist2, plus, scale}
 use Rattle.vector.specs.Rows.{row, rows, put, seg}
-use Rattle.vector.proofs.Rows.{drop_later, rest_put, rows_get_d, rows_length, rows_put, rows_take}
+use Rattle.vector.proofs.Rows.{drop_later, rest_put, rows_fit, rows_get_d, rows_length, rows_put}
 use Rattle.clip.specs.Clip.{Cut, away, clip_edge, clip_side, clip_sides, clipped, edges, plane_intersection, push_all, push_unique, ratio, signed}
 use Rattle.clip.specs.Clip.{unique, without_closing}
 use Rattle.clip.specs.Cell.{at_most}
 use Rattle.clip.specs.Code.{Distances, Points, next_of}
 use Rattle.clip.proofs.Bound.{clip_sides_bound, clipped_bound, outside_most, outside_at, push_all_bound, side_bound}
 use Rattle.clip.proofs.Ring.{edge_from, edges_end, next_corner}
+use Rattle.clip.proofs.Written.{points_count}
 
 -- ---- the crossing, operation by operation
 pub crossing : (c : Cut) (a : Vector) (da : Float) (b : Vector) (db : Float) {t d : Float} {u v p q r : Vector}
@@ -56,9 +57,6 @@ module _ (w : ℕ) (xs : List Float) (m : ℕ) (p : Vector) (tol2 : Float) where
   push_near h e ed f = record { are = rw (unique_later h e ed ∙ f); rest = refl }
 
 -- ---- the points of an edge
-points_count : {w : ℕ} {xs : List Float} {k : List Vector} {r : ℕ} {zs : List Float} → Points w xs k r zs → r ≡ length k
-points_count {w} {xs} {k} {r} {zs} h = sym (rows_length w r zs) ∙ ap length h.are
-
 pushed_range : {w : ℕ} {xs : List Float} (m : ℕ) (tol2 : Float) (ps : List Vector) {r : ℕ} {zs : List Float}
     → Points w xs (push_all tol2 (rows w m xs) ps) r zs → (m ≤ r) × (r ≤ m + length ps)
 pushed_range {w} {xs} m tol2 ps h =
@@ -107,7 +105,7 @@ pub record PolygonClipping (w : ℕ) (c : Cut) (s tol2 : Float) (n : ℕ) (ps xs
   pub few : 2 * m + outside_at c s a ≤ 3 * i + 1
 
 -- the distances that are still to be read lie beyond the points that are written
-pub unread : (w m : ℕ) {n i l : ℕ} → 0 < w → i < n → 2 * m ≤ 3 * i + 1 → w * at_most n ≤ l → w * m ≤ l - n + (i + 1)
+unread : (w m : ℕ) {n i l : ℕ} → 0 < w → i < n → 2 * m ≤ 3 * i + 1 → w * at_most n ≤ l → w * m ≤ l - n + (i + 1)
 unread w m {n} {i} {l} p h few room =
     let a : m + (n - i) ≤ at_most n = omega arith in
     let e = mul-le-mul_left w a in
@@ -121,37 +119,6 @@ pub first_distance : (c : Cut) (w n : ℕ) (ps xs : List Float) (s : Float) → 
 first_distance c w n ps xs s f h =
     let z : length xs - n + 0 ≡ length xs - n = omega arith in
     ap (mul binary64 s) (rw z at (f 0 h))
-
-module _ {w : ℕ} {c : Cut} {s tol2 : Float} {n : ℕ} {ps xs : List Float} {i m : ℕ} {zs : List Float} {a : Vector} {da first : Float}
-    {j : ℕ} {b : Vector}
-    (v : PolygonClipping w c s tol2 n ps xs i m zs a da) (f : Distances c w n ps xs) (h : i < n) (ej : j ≡ next_of i n) (eb : b ≡ row w ps j)
-    (fits : n ≤ length xs) (untouched : w * m ≤ length xs - n + (i + 1)) (e0 : first ≡ signed c s (row w ps 0)) where
-  unwritten : (k : ℕ) → w * m ≤ k → get_or zs k nan ≡ get_or xs k nan
-  unwritten k g =
-      let e : w * m + (k - w * m) ≡ k = omega arith in
-      rw e at (sym (get_or-drop (w * m) zs (k - w * m) nan) ∙ ap (λ (l : List Float). get_or l (k - w * m) nan) v.rest
-      ∙ get_or-drop (w * m) xs (k - w * m) nan)
-
-  pub next_distance : {db : Float}
-      → db ≡ cond (ltb (length xs - n + i + 1) (length zs)) (mul binary64 s (get_or zs (length xs - n + i + 1) nan)) first
-      → db ≡ signed c s b
-  next_distance ed = ed ∙ by_place (lt_or_le (i + 1) n)
-    where
-      by_place : (i + 1 < n) ⊎ (n ≤ i + 1)
-          → cond (ltb (length xs - n + i + 1) (length zs)) (mul binary64 s (get_or zs (length xs - n + i + 1) nan)) first ≡ signed c s b
-      by_place (inl g) =
-          let o : length xs - n + i + 1 ≡ length xs - n + (i + 1) = omega arith in
-          rw (
-            lt-ltb (length xs - n + i + 1) (length zs) (omega (arith, v.same_length)),
-            o,
-            unwritten (length xs - n + (i + 1)) untouched,
-            f (i + 1) g,
-            eb,
-            ej,
-            lt-ltb (i + 1) n g,
-          )
-      by_place (inr g) =
-          rw (le-ltb (length xs - n + i + 1) (length zs) (omega (arith, v.same_length)), e0, eb, ej, le-ltb (i + 1) n g)
 
 pub clipping_start : (w : ℕ) (c : Cut) (s tol2 : Float) (n : ℕ) (ps xs : List Float) {a : Vector} {da : Float} → a ≡ row w ps 0
     → da ≡ signed c s a → PolygonClipping w c s tol2 n ps xs 0 0 xs a da
@@ -167,34 +134,77 @@ clipping_start w c s tol2 n ps xs {a} ea ed =
       few = omega (arith, outside_most c s a);
     }
 
+-- the signed distance that the code reads at a place of zs, or after its end the first
+abbrev signed_read : Float → List Float → ℕ → Float → Float
+signed_read s zs at first = cond (ltb at (length zs)) (mul binary64 s (get_or zs at nan)) first
+
 module _ {w : ℕ} {c : Cut} {s tol2 : Float} {n : ℕ} {ps xs : List Float} {i m : ℕ} {zs : List Float} {a : Vector} {da : Float}
-    {j : ℕ} {b : Vector} {db : Float} {k : List Vector}
-    (v : PolygonClipping w c s tol2 n ps xs i m zs a da) (h : i < n) (ej : j ≡ next_of i n) (eb : b ≡ row w ps j) (ed : db ≡ signed c s b)
-    (ek : k ≡ clip_edge c a da b db) where
-  side : clip_sides c s (drop i (edges (rows w n ps))) ≡ k ++ clip_sides c s (drop (i + 1) (edges (rows w n ps)))
-  unfolding clip_sides
-  side = rw (edge_from w n ps h ej (v.corner h) eb, ek, v.its_distance, ed)
+    {j : ℕ} {b : Vector} {db : Float}
+    (v : PolygonClipping w c s tol2 n ps xs i m zs a da) (p : 0 < w) (room : w * at_most n ≤ length xs) (f : Distances c w n ps xs)
+    (h : i < n) (ej : j ≡ next_of i n) (eb : b ≡ row w ps j)
+    (read : db ≡ signed_read s zs (length xs - n + i + 1) (mul binary64 s (get_or xs (length xs - n) nan))) where
+  fits : n ≤ length xs
+  fits = omega (arith, rows_fit w (at_most n) p room)
 
-  given : length k ≡ length (clip_side c s (seg a b))
-  given = let e : k ≡ clip_side c s (seg a b) = rw (ek, v.its_distance, ed) in ap length e
+  untouched : w * m ≤ length xs - n + (i + 1)
+  untouched = unread w m p h (omega (arith, v.few)) room
 
-  pub clipping_room : m + length k ≤ at_most n
-  clipping_room = omega (arith, v.room, ap length side, length-append k (clip_sides c s (drop (i + 1) (edges (rows w n ps)))))
+  unwritten : (k : ℕ) → w * m ≤ k → get_or zs k nan ≡ get_or xs k nan
+  unwritten k g =
+      let e : w * m + (k - w * m) ≡ k = omega arith in
+      rw e at (sym (get_or-drop (w * m) zs (k - w * m) nan) ∙ ap (λ (l : List Float). get_or l (k - w * m) nan) v.rest
+      ∙ get_or-drop (w * m) xs (k - w * m) nan)
 
-  pub clipping_step : {r : ℕ} {ys : List Float} → Points w zs (push_all tol2 (rows w m zs) k) r ys → length ys ≡ length zs
-      → PolygonClipping w c s tol2 n ps xs (i + 1) r ys b db
-  clipping_step {r} {ys} g l =
-      let later = clip_sides c s (drop (i + 1) (edges (rows w n ps))) in
-      record {
-        total = v.total ∙ rw side (push_all_append tol2 (rows w m zs) k later ∙ rw (← g.are));
-        room = omega (arith, v.room, ap length side, length-append k later, (pushed_range m tol2 k g).1);
-        rest = g.rest ∙ drop_later zs xs (w * m) (w * r) (mul-le-mul_left w (pushed_range m tol2 k g).0) v.rest;
-        same_length = l ∙ v.same_length;
-        within = omega arith;
-        corner = next_corner w ps i ej eb;
-        its_distance = ed;
-        few = omega (arith, v.few, (pushed_range m tol2 k g).1, side_bound c s a b, given);
-      }
+  ed : db ≡ signed c s b
+  ed = read ∙ by_place (cases_lt (i + 1) n)
+    where
+      by_place : (i + 1 < n) ⊎ (n ≤ i + 1)
+          → signed_read s zs (length xs - n + i + 1) (mul binary64 s (get_or xs (length xs - n) nan)) ≡ signed c s b
+      by_place (inl g) =
+          let o : length xs - n + i + 1 ≡ length xs - n + (i + 1) = omega arith in
+          rw (
+            lt-ltb (length xs - n + i + 1) (length zs) (omega (arith, v.same_length, fits)),
+            o,
+            unwritten (length xs - n + (i + 1)) untouched,
+            f (i + 1) g,
+            eb,
+            ej,
+            lt-ltb (i + 1) n g,
+          )
+      by_place (inr g) =
+          rw (
+            le-ltb (length xs - n + i + 1) (length zs) (omega (arith, v.same_length, fits)),
+            first_distance c w n ps xs s f (omega arith),
+            eb,
+            ej,
+            le-ltb (i + 1) n g,
+          )
+
+  module _ {k : List Vector} (ek : k ≡ clip_edge c a da b db) where
+    side : clip_sides c s (drop i (edges (rows w n ps))) ≡ k ++ clip_sides c s (drop (i + 1) (edges (rows w n ps)))
+    unfolding clip_sides
+    side = rw (edge_from w n ps h ej (v.corner h) eb, ek, v.its_distance, ed)
+
+    given : length k ≡ length (clip_side c s (seg a b))
+    given = let e : k ≡ clip_side c s (seg a b) = rw (ek, v.its_distance, ed) in ap length e
+
+    pub clipping_room : m + length k ≤ at_most n
+    clipping_room = omega (arith, v.room, ap length side, length-append k (clip_sides c s (drop (i + 1) (edges (rows w n ps)))))
+
+    pub clipping_step : {r : ℕ} {ys : List Float} → Points w zs (push_all tol2 (rows w m zs) k) r ys → length ys ≡ length zs
+        → PolygonClipping w c s tol2 n ps xs (i + 1) r ys b db
+    clipping_step {r} {ys} g l =
+        let later = clip_sides c s (drop (i + 1) (edges (rows w n ps))) in
+        record {
+          total = v.total ∙ rw side (push_all_append tol2 (rows w m zs) k later ∙ rw (← g.are));
+          room = omega (arith, v.room, ap length side, length-append k later, (pushed_range m tol2 k g).1);
+          rest = g.rest ∙ drop_later zs xs (w * m) (w * r) (mul-le-mul_left w (pushed_range m tol2 k g).0) v.rest;
+          same_length = l ∙ v.same_length;
+          within = omega arith;
+          corner = next_corner w ps i ej eb;
+          its_distance = ed;
+          few = omega (arith, v.few, (pushed_range m tol2 k g).1, side_bound c s a b, given);
+        }
 
 pub clipping_end : {w : ℕ} {c : Cut} {s tol2 : Float} {n : ℕ} {ps xs : List Float} {i m : ℕ} {zs : List Float} {a : Vector} {da : Float}
     → PolygonClipping w c s tol2 n ps xs i m zs a da → n ≤ i → Points w xs (push_all tol2 [] (clip_sides c s (edges (rows w n ps)))) m zs
@@ -207,12 +217,15 @@ clipped_count {w} c s n ps h = omega (arith, points_count h, clipped_bound c s (
 
 -- ---- the closing duplicate
 module _ (w m : ℕ) (xs : List Float) (tol2 : Float) where
-  pub closing_few : m ≤ 1 → rows w m xs ≡ without_closing tol2 (rows w m xs)
+  all_kept : take m (rows w m xs) ≡ rows w m xs
+  all_kept = take_all m (rows w m xs) (omega (arith, rows_length w m xs))
+
+  pub closing_few : m ≤ 1 → take m (rows w m xs) ≡ without_closing tol2 (rows w m xs)
   unfolding without_closing
-  closing_few h = rw (rows_length w m xs, le-ltb 1 m h)
+  closing_few h = all_kept ∙ rw (rows_length w m xs, le-ltb 1 m h)
 
   closing_test : {a b : Vector} {d : Float} → 1 < m → a ≡ row w xs 0 → b ≡ row w xs (m - 1) → d ≡ dist2 a b
-      → without_closing tol2 (rows w m xs) ≡ cond (le d tol2) (rows w (m - 1) xs) (rows w m xs)
+      → without_closing tol2 (rows w m xs) ≡ cond (le d tol2) (take (m - 1) (rows w m xs)) (rows w m xs)
   unfolding without_closing
   closing_test {a} {b} {d} h ea eb ed =
       rw (
@@ -223,13 +236,12 @@ module _ (w m : ℕ) (xs : List Float) (tol2 : Float) where
         ed,
         ea,
         eb,
-        rows_take w m xs (m - 1) (omega arith),
       )
 
   pub closing_near : {a b : Vector} {d : Float} → 1 < m → a ≡ row w xs 0 → b ≡ row w xs (m - 1) → d ≡ dist2 a b → le d tol2 ≡ true
-      → rows w (m - 1) xs ≡ without_closing tol2 (rows w m xs)
+      → take (m - 1) (rows w m xs) ≡ without_closing tol2 (rows w m xs)
   closing_near h ea eb ed e = sym (closing_test h ea eb ed ∙ rw e)
 
   pub closing_far : {a b : Vector} {d : Float} → 1 < m → a ≡ row w xs 0 → b ≡ row w xs (m - 1) → d ≡ dist2 a b → le d tol2 ≡ false
-      → rows w m xs ≡ without_closing tol2 (rows w m xs)
-  closing_far h ea eb ed e = sym (closing_test h ea eb ed ∙ rw e)
+      → take m (rows w m xs) ≡ without_closing tol2 (rows w m xs)
+  closing_far h ea eb ed e = all_kept ∙ sym (closing_test h ea eb ed ∙ rw e)

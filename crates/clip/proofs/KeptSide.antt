@@ -112,18 +112,6 @@ pub record Looking (w n : ℕ) (ps : List Float) (c : Cut) (xs : List Float) (i 
   pub same_length : length zs ≡ length xs
   pub within : i ≤ n
 
-pub looking_start : (w n : ℕ) (ps : List Float) (c : Cut) (xs : List Float) → Looking w n ps c xs 0 0 0 xs
-looking_start w n ps c xs =
-    record {
-      up = omega arith;
-      down = omega arith;
-      few_above = omega arith;
-      few_below = omega arith;
-      written = λ k h. absurd (omega arith);
-      same_length = refl;
-      within = omega arith;
-    }
-
 count_step : (b : Bool) (k t : ℕ) → k + cond b (suc t) t ≡ k + cond b 1 0 + t
 count_step true k t = omega arith
 count_step false k t = omega arith

@@ -8,3 +8,4 @@ pub mod Listing
 pub mod Section
 pub mod Carrying
 pub mod Faces
+pub mod Written

@@ -1,6 +1,6 @@
 -- The segments as the code lists them, over the width: the search for a duplicate, a segment pushed, and the loop over the points.
 -- Assumes nothing.
-use mathlib.Core.Path.{◌≡◌, refl, ap, sym, ◌∙◌}
+use mathlib.Core.Path.{◌≡◌, refl, sym, ◌∙◌}
 use mathlib.Core.List.{List, [], ◌∷◌, ◌++◌}
 use mathlib.Core.Bool.{Bool, true, false, ◌&&◌, ◌||◌, cond}
 use Prim.Native.Nat.{ℕ, ◌+◌, ◌*◌, ◌≤◌, ◌<◌}
@@ -8,23 +8,22 @@ use native.Mathlib.Nat.{mul-le-mul_left}
 use native.Mathlib.Numerals.{add-one}
 use native.Mathlib.Omega.{arith}
 use lib.Ieee.{Float}
-use lib.ListN.{length, drop, drop_of_length-le}
+use lib.ListN.{length, take, drop, drop_of_length-le}
 use lib.Seq.{drop-cons}
 use Rattle.vector.specs.Vector.{Vector}
-use Rattle.vector.specs.Rows.{Seg, seg, no_seg, row, rows, segs, put}
+use Rattle.vector.specs.Rows.{Seg, seg, no_seg, row, rows, segs, all_segs, put}
 use Rattle.vector.proofs.Rows.{drop_later, segs_get_d, segs_length, segs_put, segs_rest}
+use Rattle.vector.proofs.Slices.{slice_segs}
 use Rattle.clip.specs.Clip.{Cut, alike, duplicate, edges, lies_on, push_segment, push_segments}
 use Rattle.clip.specs.Code.{Segments, next_of}
 use Rattle.clip.proofs.Bound.{push_segment_bound}
 use Rattle.clip.proofs.Ring.{edge_from, edges_end, next_corner}
+use Rattle.clip.proofs.Written.{segments_count}
 
 -- ---- the search: i of the k segments of xs are passed, none like e
 pub record Searching (w k : ℕ) (xs : List Float) (tol2 : Float) (e : Seg) (i : ℕ) : Type 0 where
   pub left : duplicate tol2 (segs w k xs) e ≡ duplicate tol2 (drop i (segs w k xs)) e
   pub within : i ≤ k
-
-pub searching_start : (w k : ℕ) (xs : List Float) (tol2 : Float) (e : Seg) → Searching w k xs tol2 e 0
-searching_start w k xs tol2 e = record { left = refl; within = omega arith }
 
 module _ {w k : ℕ} {xs : List Float} {tol2 : Float} {e : Seg} {i : ℕ} {p q : Vector} {b : Bool}
     (v : Searching w k xs tol2 e i) (h : i < k) (ep : p ≡ row w xs (2 * i)) (eq : q ≡ row w xs (2 * i + 1)) (eb : b ≡ alike tol2 (seg p q) e) where
@@ -46,6 +45,12 @@ pub searching_end : {w k : ℕ} {xs : List Float} {tol2 : Float} {e : Seg} {i : 
 unfolding duplicate
 searching_end {w} {k} {xs} {tol2} {e} {i} v h =
     sym (v.left ∙ rw (drop_of_length-le (segs w k xs) {i = i} (omega (arith, segs_length w k xs))))
+
+-- the k segments that were pushed before, lent alone
+pub pushed_before : (w k : ℕ) (xs : List Float) → 0 < w → w * (2 * (k + 1)) ≤ length xs → all_segs w (take (w * (2 * k)) xs) ≡ segs w k xs
+pushed_before w k xs p h =
+    let before : 2 * k ≤ 2 * (k + 1) = omega arith in
+    slice_segs w k xs p (omega (arith, mul-le-mul_left w before, h)) refl
 
 -- ---- a segment pushed; x tells whether it lies on the cut, y whether it is a duplicate
 module _ (w k : ℕ) (xs : List Float) (c : Cut) (tol2 : Float) (e : Seg) where
@@ -81,18 +86,13 @@ pub record Listing (w : ℕ) (c : Cut) (tol2 : Float) (m : ℕ) (ps xs : List Fl
   pub within : i ≤ m
   pub corner : i < m → a ≡ row w ps i
 
-pub listing_start : {w : ℕ} (c : Cut) (tol2 : Float) (m : ℕ) {ps : List Float} (xs : List Float) {a : Vector} → a ≡ row w ps 0
-    → Listing w c tol2 m ps xs 0 0 xs a
-listing_start c tol2 m xs ea =
-    record { total = refl; rest = refl; same_length = refl; few = omega arith; within = omega arith; corner = λ _. ea }
-
 pub listing_step : {w : ℕ} {c : Cut} {tol2 : Float} {m : ℕ} {ps xs : List Float} {i k : ℕ} {zs : List Float} {a : Vector} {j : ℕ} {b : Vector}
     {r : ℕ} {ys : List Float} → Listing w c tol2 m ps xs i k zs a → i < m → j ≡ next_of i m → b ≡ row w ps j
     → Segments w zs (push_segment c tol2 (segs w k zs) (seg a b)) r ys → length ys ≡ length zs → Listing w c tol2 m ps xs (i + 1) r ys b
 unfolding push_segments
 listing_step {w} {c} {tol2} {m} {ps} {xs} {i} {k} {zs} {a} {j} {b} {r} {ys} v h ej eb g l =
     let n = push_segment_bound c tol2 (segs w k zs) (seg a b) in
-    let e : r ≡ length (push_segment c tol2 (segs w k zs) (seg a b)) = sym (segs_length w r ys) ∙ ap length g.are in
+    let e : r ≡ length (push_segment c tol2 (segs w k zs) (seg a b)) = segments_count g in
     let f = segs_length w k zs in
     let o : k ≤ r = omega arith in
     record {

@@ -1,13 +1,14 @@
 // The section of a polygon by a plane in space or by a line in the plane, and the segments of a cell in space, face by face.
 #![tactic(auto)]
 
-ghost use Rattle.std.specs.Prelude.{◌≡◌, ◌++◌, map, cond, ◌+◌, ◌*◌, ◌<◌, ◌≤◌, get_or, length, ltb};
+ghost use Rattle.std.specs.Prelude.{◌≡◌, ◌++◌, map, cond, ◌+◌, ◌*◌, ◌/◌, ◌<◌, ◌≤◌, get_or, length, ltb};
 ghost use Rattle.std.specs.Float.{binary64, nan};
 ghost use Rattle.std.specs.Float.Ieee.{mul};
-ghost use Rattle.vector.specs.Rows.{segs};
+ghost use Rattle.vector.specs.Rows.{all_segs, segs};
 ghost use Rattle.clip.specs.Cell.{at_most, cut_by, faces_of, project_seg};
 ghost use Rattle.clip.specs.Clip.{ratio};
 ghost use Rattle.clip.specs.Code.{CellCut, Fit, Segments, next_of, side_of};
+ghost use Rattle.clip.specs.View.{cut_of};
 
 pub mod polygon;
 
@@ -26,48 +27,59 @@ pub struct Clipped {
     pub points: usize,
 }
 
-// A cell of m corners in all, which stand in coords face by face; ends are running totals. Its segments, in the
-// plane's own coordinates, written to out. The scratch `points` and `space` has room for one face at a time, and what
-// it holds afterwards is not said.
+// The plane that cuts a cell in space, with its axes, and the tolerance of the tests.
+#[derive(Clone, Copy)]
+pub struct CuttingPlane {
+    pub plane: Plane,
+    pub tol: f64,
+}
+
+impl CuttingPlane {
+    // The cut of each face.
+    pub fn cut(&self) -> Cut<3>
+        ensures { cut_of result ≡ cut_by self.now.plane self.now.tol }
+    {
+        Cut {
+            origin: self.plane.origin,
+            normal: self.plane.normal,
+            tol: self.tol,
+        }
+    }
+}
+
+// A cell whose corners stand in coords face by face; ends are running totals. Its segments, in the plane's own coordinates, written to
+// out. The scratch `points` and `space` has room for one face at a time, and what it holds afterwards is not said.
 pub fn cell_segments(
     coords: &[f64],
     ends: &[usize],
-    m: usize,
-    plane: Plane,
-    tol: f64,
+    cutting: &CuttingPlane,
     points: &mut [f64],
     space: &mut [f64],
     out: &mut [f64],
 ) -> Found
-    requires { Fit 0 ends.now m (length points.old) (length space.old) × (3 * m ≤ length coords.now)
-        × (4 * at_most m ≤ length out.old) }
-    ensures { CellCut (cut_by plane tol) plane (faces_of 3 ends.now coords.now) out.old result
-        out.new }
+    requires { Fit 0 ends.now (length coords.now / 3) (length points.old) (length space.old)
+        × (4 * at_most (length coords.now / 3) ≤ length out.old) }
+    ensures { CellCut (cut_by cutting.now.plane cutting.now.tol) cutting.now.plane (faces_of 3 ends.now coords.now)
+        out.old result out.new }
 {
-    let origin = plane.origin;
-    let normal = plane.normal;
-    let cut = Cut {
-        origin,
-        normal,
-        tol,
-    };
+    let cut = cutting.cut();
     let mut k = 0;
     let mut s = 0;
     for &e in ends {
-        let at = 3 * s;
-        let found = plane_section_segments(&coords[at..], e - s, &cut, points, space);
-        k = project_segments(space, found.segments, plane, out, k);
+        let found = plane_section_segments(&coords[3 * s..3 * e], &cut, points, space);
+        k = project_segments(&space[..6 * found.segments], cutting.plane, out, k);
         s = e;
     }
     Found { segments: k }
 }
 
-// Projects k segments into the plane, after the `from` in out. Gives how many there are then.
-fn project_segments(space: &[f64], k: usize, plane: Plane, out: &mut [f64], from: usize) -> usize
-    requires { (6 * k ≤ length space.now) × (4 * (from + k) ≤ length out.old) }
-    ensures { Segments 2 out.old (segs 2 from out.old ++ map (project_seg plane) (segs 3 k space.now))
+// Projects segments into the plane, after the `from` in out, where they grow in place. Gives how many there are then.
+fn project_segments(space: &[f64], plane: Plane, out: &mut [f64], from: usize) -> usize
+    requires { 4 * (from + length space.now / 6) ≤ length out.old }
+    ensures { Segments 2 out.old (segs 2 from out.old ++ map (project_seg plane) (all_segs 3 space.now))
         result out.new }
 {
+    let k = space.len() / 6;
     for i in 0..k {
         let j = 2 * (from + i);
         put(out, j, plane.project(coord(space, 2 * i)));

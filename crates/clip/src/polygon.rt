@@ -1,10 +1,11 @@
 // Polygons in space, cut by a plane, and polygons in the plane, cut by a line: points of D coordinates.
-ghost use Rattle.std.specs.Prelude.{◌≡◌, [], ◌+◌, ◌*◌, ◌<◌, ◌≤◌, length};
-ghost use Rattle.vector.specs.Rows.{rows, seg, segs};
-ghost use Rattle.clip.specs.Clip.{alike, duplicate, edges, lies_on, push_all, push_segment, push_segments, push_unique, without_closing};
+ghost use Rattle.std.specs.Prelude.{◌≡◌, [], ◌+◌, ◌*◌, ◌/◌, ◌<◌, ◌≤◌, length, take};
+ghost use Rattle.vector.specs.Rows.{all_rows, all_segs, rows, segs};
+ghost use Rattle.clip.specs.Clip.{alike, duplicate, edges, lies_on, push_all, push_segment, push_segments, push_unique, tol_squared};
+ghost use Rattle.clip.specs.Clip.{without_closing};
 ghost use Rattle.clip.specs.Cell.{at_most};
 ghost use Rattle.clip.specs.Code.{Crossed, Distances, EdgeClipped, FaceCut, Points, PolygonClipped, Segments, SideCut, Sided};
-ghost use Rattle.clip.specs.View.{cut_of, points_of};
+ghost use Rattle.clip.specs.View.{cut_of, points_of, seg_of};
 
 use crate::{Clipped, Found, next_of, ratio, side_of, signed_at};
 use vector::{absolute, coord, dist2, distance, minus, plus, put, scaled};
@@ -15,6 +16,15 @@ pub struct Cut<const D: usize> {
     pub origin: [f64; D],
     pub normal: [f64; D],
     pub tol: f64,
+}
+
+impl<const D: usize> Cut<D> {
+    // The square of the tolerance, which squared distances are compared with.
+    pub fn tol2(&self) -> f64
+        ensures { result ≡ tol_squared (cut_of self.now) }
+    {
+        self.tol * self.tol
+    }
 }
 
 // The points that a directed edge gives when its polygon is clipped.
@@ -37,27 +47,28 @@ pub struct Clipping<const D: usize> {
     pub clip: Clip<D>,
 }
 
-// Intersection of a polygon of n corners with the cut: its segments, written to out.
+// Intersection of a polygon with the cut: its segments, written to out.
 //
 // The polygon is clipped to one side of the cut, and the boundary edges that lie on the cut are kept. This
 // handles concave polygons too, and yields one segment per crossing interval. What the scratch `points` holds
-// afterwards is not said.
+// afterwards is not said. The polygon is a slice of numbers, as the C interface lends it, and no slice of points, since `points` also
+// holds the distances. The polygon and the cut stand one by one, as in slice.rs. The clauses on room stay: they relate slices that are
+// lent apart, and no value holds both.
 pub fn plane_section_segments<const D: usize>(
     polygon: &[f64],
-    n: usize,
     cut: &Cut<D>,
     points: &mut [f64],
     out: &mut [f64],
 ) -> Found
-    requires { (0 < D) × (D * n ≤ length polygon.now) × (D * at_most n ≤ length points.old)
-        × (D * (2 * at_most n) ≤ length out.old) }
-    ensures { FaceCut D (cut_of cut.now) (rows D n polygon.now) out.old result out.new }
+    requires { (0 < D) × (D * at_most (length polygon.now / D) ≤ length points.old)
+        × (D * (2 * at_most (length polygon.now / D)) ≤ length out.old) }
+    ensures { FaceCut D (cut_of cut.now) (all_rows D polygon.now) out.old result out.new }
 {
-    if n < 3 {
+    if polygon.len() / D < 3 {
         return Found { segments: 0 };
     }
-    match kept_side(polygon, n, cut, points) {
-        Some(sign) => section_on(polygon, n, cut, sign, points, out),
+    match kept_side(polygon, cut, points) {
+        Some(sign) => section_on(polygon, cut, sign, points, out),
         None => Found { segments: 0 },
     }
 }
@@ -66,39 +77,34 @@ pub fn plane_section_segments<const D: usize>(
 // in the last places of points.
 fn section_on<const D: usize>(
     polygon: &[f64],
-    n: usize,
     cut: &Cut<D>,
     sign: f64,
     points: &mut [f64],
     out: &mut [f64],
 ) -> Found
-    requires { (0 < D) × (0 < n) × (D * n ≤ length polygon.now) × (D * at_most n ≤ length points.old)
-        × (D * (2 * at_most n) ≤ length out.old) × Distances (cut_of cut.now) D n polygon.now points.old }
-    ensures { SideCut D (cut_of cut.now) sign (rows D n polygon.now) out.old result
+    requires { (0 < D) × (0 < length polygon.now / D) × (D * at_most (length polygon.now / D) ≤ length points.old)
+        × (D * (2 * at_most (length polygon.now / D)) ≤ length out.old)
+        × Distances (cut_of cut.now) D (length polygon.now / D) polygon.now points.old }
+    ensures { SideCut D (cut_of cut.now) sign (all_rows D polygon.now) out.old result
         out.new }
 {
-    let tol2 = cut.tol * cut.tol;
-    let clipped = clip_polygon(polygon, n, cut, sign, tol2, points);
-    let m = without_closing::<D>(points, clipped.points, tol2);
-    if m < 2 {
+    let clipped = clip_polygon(polygon, cut, sign, points);
+    let left = without_closing::<D>(&points[..D * clipped.points], cut.tol2());
+    if left < 2 {
         return Found { segments: 0 };
     }
     Found {
-        segments: segments(points, m, cut, tol2, out),
+        segments: segments(&points[..D * left], cut, out),
     }
 }
 
 // The side that holds the polygon's interior: above if any corner is, else below if any is; and none if the face
 // is clear of the cut, so that it has no section. Leaves the distances of the corners in the last places of points.
-fn kept_side<const D: usize>(
-    polygon: &[f64],
-    n: usize,
-    cut: &Cut<D>,
-    points: &mut [f64],
-) -> Option<f64>
-    requires { (D * n ≤ length polygon.now) × (n ≤ length points.old) }
-    ensures { Sided (cut_of cut.now) D n polygon.now result points.new }
+fn kept_side<const D: usize>(polygon: &[f64], cut: &Cut<D>, points: &mut [f64]) -> Option<f64>
+    requires { (0 < D) × (length polygon.now / D ≤ length points.old) }
+    ensures { Sided (cut_of cut.now) D (length polygon.now / D) polygon.now result points.new }
 {
+    let n = polygon.len() / D;
     let distances = points.len() - n;
     let mut above = 0;
     let mut below = 0;
@@ -115,17 +121,17 @@ fn kept_side<const D: usize>(
 // points, and each is read before a point can be written there.
 fn clip_polygon<const D: usize>(
     polygon: &[f64],
-    n: usize,
     cut: &Cut<D>,
     sign: f64,
-    tol2: f64,
     points: &mut [f64],
 ) -> Clipped
-    requires { (0 < D) × (0 < n) × (D * n ≤ length polygon.now) × (D * at_most n ≤ length points.old)
-        × Distances (cut_of cut.now) D n polygon.now points.old }
-    ensures { PolygonClipped D (cut_of cut.now) sign tol2 (rows D n polygon.now) points.old result
+    requires { (0 < D) × (0 < length polygon.now / D) × (D * at_most (length polygon.now / D) ≤ length points.old)
+        × Distances (cut_of cut.now) D (length polygon.now / D) polygon.now points.old }
+    ensures { PolygonClipped D (cut_of cut.now) sign (tol_squared (cut_of cut.now)) (all_rows D polygon.now) points.old result
         points.new }
 {
+    let n = polygon.len() / D;
+    let tol2 = cut.tol2();
     let distances = points.len() - n;
     let first = sign * points[distances];
     let mut a = coord(polygon, 0);
@@ -142,7 +148,7 @@ fn clip_polygon<const D: usize>(
     Clipped { points: m }
 }
 
-// What the edge from a to b gives, by the signed distances da and db.
+// What the edge from a to b gives, by the signed distances da and db. Ends and distances stand one by one, as in slice.rs.
 fn clip_edge<const D: usize>(
     a: [f64; D],
     da: f64,
@@ -180,7 +186,8 @@ fn plane_intersection<const D: usize>(
     }
 }
 
-// Pushes the points of an edge after the m there are. Gives how many there are then.
+// Pushes the points of an edge after the m there are. Gives how many there are then. The m stands beside its buffer, here and below:
+// the points grow in place, without a heap, in the scratch that also holds the distances.
 fn push_clip<const D: usize>(points: &mut [f64], m: usize, clip: Clip<D>, tol2: f64) -> usize
     requires { (0 < D) × (D * (m + length (points_of clip)) ≤ length points.old) }
     ensures { Points D points.old
@@ -209,88 +216,95 @@ fn push_unique<const D: usize>(points: &mut [f64], m: usize, p: [f64; D], tol2: 
     m
 }
 
-// How many of the m points are left without the closing duplicate of the cyclic walk.
-fn without_closing<const D: usize>(points: &[f64], m: usize, tol2: f64) -> usize
-    requires { D * m ≤ length points.now }
-    ensures { (rows D result points.now ≡ without_closing tol2 (rows D m points.now)) ×
-        (result ≤ m) }
+// How many of the points are left without the closing duplicate of the cyclic walk.
+fn without_closing<const D: usize>(points: &[f64], tol2: f64) -> usize
+    requires { 0 < D }
+    ensures { (take result (all_rows D points.now) ≡ without_closing tol2 (all_rows D points.now)) ×
+        (result ≤ length points.now / D) }
 {
+    let m = points.len() / D;
     if m > 1 && dist2::<D>(coord(points, 0), coord(points, m - 1)) <= tol2 {
         return m - 1;
     }
     m
 }
 
-// The edges of m clipped points that lie on the cut, each once, written to out. Gives how many there are.
-fn segments<const D: usize>(
-    points: &[f64],
-    m: usize,
-    cut: &Cut<D>,
-    tol2: f64,
-    out: &mut [f64],
-) -> usize
-    requires { (0 < D) × (0 < m) × (D * m ≤ length points.now) × (D * (2 * m) ≤ length out.old) }
+// The edges of clipped points that lie on the cut, each once, written to out. Gives how many there are.
+fn segments<const D: usize>(points: &[f64], cut: &Cut<D>, out: &mut [f64]) -> usize
+    requires { (0 < D) × (0 < length points.now / D) × (D * (2 * (length points.now / D)) ≤ length out.old) }
     ensures { Segments D out.old
-        (push_segments (cut_of cut.now) tol2 [] (edges (rows D m points.now))) result out.new }
+        (push_segments (cut_of cut.now) (tol_squared (cut_of cut.now)) [] (edges (all_rows D points.now)))
+        result out.new }
 {
+    let m = points.len() / D;
     let mut a = coord(points, 0);
     let mut k = 0;
     for i in 0..m {
         let b = coord(points, next_of(i, m));
-        k = push_segment(out, k, a, b, cut, tol2);
+        k = push_segment(out, k, &Segment { a, b }, cut);
         a = b;
     }
     k
 }
 
-// Pushes the segment from a to b after the k there are, if it lies on the cut and is no duplicate. Gives how many
-// there are then.
+// Pushes a segment after the k there are, if it lies on the cut and is no duplicate. Gives how many there are then. They
+// grow in place, without a heap, in the buffer that a caller lends.
 fn push_segment<const D: usize>(
     out: &mut [f64],
     k: usize,
-    a: [f64; D],
-    b: [f64; D],
+    segment: &Segment<D>,
     cut: &Cut<D>,
-    tol2: f64,
 ) -> usize
     requires { (0 < D) × (D * (2 * (k + 1)) ≤ length out.old) }
     ensures { Segments D out.old
-        (push_segment (cut_of cut.now) tol2 (segs D k out.old) (seg a.entry b.entry)) result
-        out.new }
+        (push_segment (cut_of cut.now) (tol_squared (cut_of cut.now)) (segs D k out.old) (seg_of segment.now))
+        result out.new }
 {
-    if lies_on(a, b, cut, tol2) && !duplicate(out, k, a, b, tol2) {
-        put(out, 2 * k, a);
-        put(out, 2 * k + 1, b);
+    if segment.lies_on(cut) && !segment.is_duplicate(&out[..D * (2 * k)], cut.tol2()) {
+        put(out, 2 * k, segment.a);
+        put(out, 2 * k + 1, segment.b);
         return k + 1;
     }
     k
 }
 
-// Whether a and b are on the cut and apart.
-fn lies_on<const D: usize>(a: [f64; D], b: [f64; D], cut: &Cut<D>, tol2: f64) -> bool
-    ensures { result ≡ lies_on (cut_of cut.now) tol2 (seg a.entry b.entry) }
-{
-    let da = distance(a, cut.origin, cut.normal);
-    let db = distance(b, cut.origin, cut.normal);
-    absolute(da) <= cut.tol && absolute(db) <= cut.tol && dist2(a, b) > tol2
+// A segment by its ends.
+#[derive(Clone, Copy)]
+struct Segment<const D: usize> {
+    a: [f64; D],
+    b: [f64; D],
 }
 
-// Whether one of the k segments there are has its ends near a and b, either way round.
-fn duplicate<const D: usize>(out: &[f64], k: usize, a: [f64; D], b: [f64; D], tol2: f64) -> bool
-    requires { (0 < D) × (D * (2 * k) ≤ length out.now) }
-    ensures { result ≡ duplicate tol2 (segs D k out.now) (seg a.entry b.entry) }
-{
-    for i in 0..k {
-        if alike(coord(out, 2 * i), coord(out, 2 * i + 1), a, b, tol2) {
-            return true;
-        }
+impl<const D: usize> Segment<D> {
+    // Whether its ends are on the cut and apart.
+    fn lies_on(&self, cut: &Cut<D>) -> bool
+        ensures { result ≡ lies_on (cut_of cut.now) (tol_squared (cut_of cut.now)) (seg_of self.now) }
+    {
+        let da = distance(self.a, cut.origin, cut.normal);
+        let db = distance(self.b, cut.origin, cut.normal);
+        absolute(da) <= cut.tol && absolute(db) <= cut.tol && dist2(self.a, self.b) > cut.tol2()
     }
-    false
-}
 
-// Whether the ends p and q are near a and b, either way round.
-fn alike<const D: usize>(p: [f64; D], q: [f64; D], a: [f64; D], b: [f64; D], tol2: f64) -> bool
-    ensures { result ≡ alike tol2 (seg p.entry q.entry) (seg a.entry b.entry) }
-{
-    (dist2(p, a) <= tol2 && dist2(q, b) <= tol2) || (dist2(p, b) <= tol2 && dist2(q, a) <= tol2)
+    // Whether one of the segments in a slice has its ends near these, either way round.
+    fn is_duplicate(&self, segments: &[f64], tol2: f64) -> bool
+        requires { 0 < D }
+        ensures { result ≡ duplicate tol2 (all_segs D segments.now) (seg_of self.now) }
+    {
+        for i in 0..segments.len() / (2 * D) {
+            let a = coord(segments, 2 * i);
+            let b = coord(segments, 2 * i + 1);
+            if self.alike(&Segment { a, b }, tol2) {
+                return true;
+            }
+        }
+        false
+    }
+
+    // Whether the ends are near those of a segment that was pushed, either way round.
+    fn alike(&self, pushed: &Segment<D>, tol2: f64) -> bool
+        ensures { result ≡ alike tol2 (seg_of pushed.now) (seg_of self.now) }
+    {
+        (dist2(pushed.a, self.a) <= tol2 && dist2(pushed.b, self.b) <= tol2)
+            || (dist2(pushed.a, self.b) <= tol2 && dist2(pushed.b, self.a) <= tol2)
+    }
 }

@@ -1,7 +1,7 @@
 -- What is copied of an accepted cell, read back by clipping, is its polygons; and how large those are. Over the width w of a row where
 -- possible. Assumes nothing.
 use mathlib.Core.Path.{◌≡◌, refl, sym, ap, ◌∙◌, subst}
-use mathlib.Core.List.{List, [], ◌∷◌, ◌++◌, append_assoc, map, flatten}
+use mathlib.Core.List.{List, [], ◌∷◌, ◌++◌, append_assoc, append-nil, map, flatten}
 use Prim.Native.Nat.{ℕ, ◌+◌, ◌-◌, ◌*◌, ◌/◌, ◌≤◌}
 use native.Mathlib.Omega.{arith}
 use native.Mathlib.Nat.{mul-suc, mul-zero, zero-add}
@@ -38,6 +38,15 @@ module _ {A : Type 0} (P : A → Type 0) where
   all_append : (l m : List A) → All P (l ++ m) → All P l × All P m
   all_append [] m h = (tt, h)
   all_append (x ∷ l) m h = let r = all_append l m h.1 in ((h.0, r.0), r.1)
+
+  all_join : (l m : List A) → All P l → All P m → All P (l ++ m)
+  all_join [] m h g = g
+  all_join (x ∷ l) m h g = (h.0, all_join l m h.1 g)
+
+  pub all_in_row : (ls : List (List A)) → All (All P) ls → All P (flatten ls)
+  unfolding flatten
+  all_in_row [] h = tt
+  all_in_row (l ∷ ls) h = all_join l (flatten ls) h.0 (all_in_row ls h.1)
 
   all_flatten : (ls : List (List A)) → All P (flatten ls) → All (All P) ls
   unfolding flatten
@@ -104,18 +113,24 @@ module _ (w : ℕ) where
       ∙ drop_at (flatten p) (flatten (flatten ps) ++ out) (w * n) (wide_length p h.0) in
       ap (λ q. q ∷ faces_from w (k + n) (ends_from (k + n) ps) xs) one ∙ ap (λ l. p ∷ l) (faces_back (k + n) ps h.1 xs out rest)
 
-  pub faces_read : (ps : List Polygon) → All (Wide w) ps → (out : List Float)
-      → faces_of w (ends_from 0 ps) (over (flatten (flatten ps)) out) ≡ ps
-  faces_read ps h out =
-      faces_back 0 ps h (over (flatten (flatten ps)) out) (drop (length (flatten (flatten ps))) out)
-      (ap (λ n. drop n (over (flatten (flatten ps)) out)) (mul-zero w))
+  pub faces_read : (ps : List Polygon) → All (Wide w) ps → faces_of w (ends_from 0 ps) (flatten (flatten ps)) ≡ ps
+  faces_read ps h =
+      let all = flatten (flatten ps) in
+      faces_back 0 ps h all [] (ap (λ n. drop n all) (mul-zero w) ∙ sym (append-nil all))
+
+  -- their numbers, where they are written over a longer slice
+  pub numbers_taken : (ps : List Polygon) → All (Wide w) ps → (out : List Float)
+      → take (w * length (flatten ps)) (over (flatten (flatten ps)) out) ≡ flatten (flatten ps)
+  numbers_taken ps h out =
+      let all = flatten (flatten ps) in
+      take_at all (drop (length all) out) (w * length (flatten ps)) (wide_length (flatten ps) (all_in_row (λ x. length x ≡ w) ps h))
 
 pub copied_back : (k : Cell) (a : Accepted (space_cell k)) (out : List Float) (ends : List ℕ) → let ps = polygons_of (space_cell k) in
-    faces_of 3 (take (length ps) (over (ends_from 0 ps) ends)) (over (flatten (flatten ps)) out) ≡ ps
+    faces_of 3 (take (length ps) (over (ends_from 0 ps) ends)) (take (3 * length (flatten ps)) (over (flatten (flatten ps)) out)) ≡ ps
 copied_back k a out ends =
     let ps = polygons_of (space_cell k) in
-    ap (λ l. faces_of 3 l (over (flatten (flatten ps)) out)) (ends_taken ps ends)
-    ∙ faces_read 3 ps (passed_wide (space_read k ps a).passed) out
+    let wide = passed_wide (space_read k ps a).passed in
+    rw (ends_taken ps ends, numbers_taken 3 ps wide out) (faces_read 3 ps wide)
 
 -- ---- how large the polygons are
 

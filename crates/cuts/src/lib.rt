@@ -13,7 +13,7 @@ ghost use Rattle.cuts.specs.Code.{CellFits, Roomy, SectionGiven, Sized, rows_of,
 
 use cell::accepted::SpaceCell;
 use cell::types::SpaceType;
-use clip::Found;
+use clip::{CuttingPlane, Found};
 use rows::Refusal;
 use stitch::Stitched;
 use vector::{Plane, coord};
@@ -87,16 +87,17 @@ impl Size {
     }
 }
 
-// The segments of an accepted cell on a plane, in the plane's own coordinates, written over the start of `out`.
-pub fn gather_cell(cell: &SpaceCell, plane: Plane, tol: f64, out: &mut [f64]) -> Found
+// The segments of an accepted cell on a plane, in the plane's own coordinates, written over the start of `out`. The cell and the
+// plane stand one by one, since each comes of a test of its own.
+pub fn gather_cell(cell: &SpaceCell, cutting: &CuttingPlane, out: &mut [f64]) -> Found
     requires { 6 * cell.now.corners ≤ length out.old }
-    ensures { CellCut (cut_by plane tol) plane (polygons_of (space_cell (cell_of cell.now.cell))) out.old
+    ensures { CellCut (cut_by cutting.now.plane cutting.now.tol) cutting.now.plane (polygons_of (space_cell (cell_of cell.now.cell))) out.old
         result out.new }
 {
     match Size::of(cell) {
-        Size::Fixed => gather_within::<72, 6, 18, 36>(cell, plane, tol, out),
-        Size::Small => gather_within::<264, 29, 396, 792>(cell, plane, tol, out),
-        Size::Large => gather_within::<768, 85, 1152, 2304>(cell, plane, tol, out),
+        Size::Fixed => gather_within::<72, 6, 18, 36>(cell, cutting, out),
+        Size::Small => gather_within::<264, 29, 396, 792>(cell, cutting, out),
+        Size::Large => gather_within::<768, 85, 1152, 2304>(cell, cutting, out),
     }
 }
 
@@ -105,13 +106,12 @@ pub fn gather_cell(cell: &SpaceCell, plane: Plane, tol: f64, out: &mut [f64]) ->
 #[inline(never)]
 fn gather_within<const CORNERS: usize, const FACES: usize, const POINTS: usize, const SPACE: usize>(
     cell: &SpaceCell,
-    plane: Plane,
-    tol: f64,
+    cutting: &CuttingPlane,
     out: &mut [f64],
 ) -> Found
     requires { (6 * cell.now.corners ≤ length out.old) × CellFits CORNERS FACES POINTS SPACE (cell_of cell.now.cell)
         × (CORNERS ≤ 768) × (FACES ≤ 85) × (POINTS ≤ 1152) × (SPACE ≤ 2304) }
-    ensures { CellCut (cut_by plane tol) plane (polygons_of (space_cell (cell_of cell.now.cell))) out.old
+    ensures { CellCut (cut_by cutting.now.plane cutting.now.tol) cutting.now.plane (polygons_of (space_cell (cell_of cell.now.cell))) out.old
         result out.new }
 {
     let mut corners = [0.0; CORNERS];
@@ -120,11 +120,9 @@ fn gather_within<const CORNERS: usize, const FACES: usize, const POINTS: usize, 
     let mut space = [0.0; SPACE];
     let kept = cell.copy(&mut corners, &mut face_ends);
     clip::cell_segments(
-        &corners,
+        &corners[..3 * kept.corners],
         &face_ends[..kept.faces],
-        kept.corners,
-        plane,
-        tol,
+        cutting,
         &mut points,
         &mut space,
         out,
@@ -134,21 +132,20 @@ fn gather_within<const CORNERS: usize, const FACES: usize, const POINTS: usize, 
 // The section of an accepted cell by a plane: its segments, stitched.
 pub fn section_cell(
     cell: &SpaceCell,
-    plane: Plane,
-    tol: f64,
+    cutting: &CuttingPlane,
     numbers: &mut [f64],
     nodes: &mut [u32],
     ends: &mut [u32],
 ) -> Stitched
     requires { Roomy cell.now.corners numbers.old nodes.old ends.old }
-    ensures { SectionGiven plane tol (polygons_of (space_cell (cell_of cell.now.cell))) result
+    ensures { SectionGiven cutting.now.plane cutting.now.tol (polygons_of (space_cell (cell_of cell.now.cell))) result
         (buffers numbers.old nodes.old ends.old)
         (buffers numbers.new nodes.new ends.new) }
 {
     match Size::of(cell) {
-        Size::Fixed => section_within::<144>(cell, plane, tol, numbers, nodes, ends),
-        Size::Small => section_within::<528>(cell, plane, tol, numbers, nodes, ends),
-        Size::Large => section_within::<1536>(cell, plane, tol, numbers, nodes, ends),
+        Size::Fixed => section_within::<144>(cell, cutting, numbers, nodes, ends),
+        Size::Small => section_within::<528>(cell, cutting, numbers, nodes, ends),
+        Size::Large => section_within::<1536>(cell, cutting, numbers, nodes, ends),
     }
 }
 
@@ -156,19 +153,19 @@ pub fn section_cell(
 #[inline(never)]
 fn section_within<const SEGMENTS: usize>(
     cell: &SpaceCell,
-    plane: Plane,
-    tol: f64,
+    cutting: &CuttingPlane,
     numbers: &mut [f64],
     nodes: &mut [u32],
     ends: &mut [u32],
 ) -> Stitched
     requires { Roomy cell.now.corners numbers.old nodes.old ends.old × (SEGMENTS ≤ 1536)
         × (6 * cell.now.corners ≤ SEGMENTS) }
-    ensures { SectionGiven plane tol (polygons_of (space_cell (cell_of cell.now.cell))) result
+    ensures { SectionGiven cutting.now.plane cutting.now.tol (polygons_of (space_cell (cell_of cell.now.cell))) result
         (buffers numbers.old nodes.old ends.old)
         (buffers numbers.new nodes.new ends.new) }
 {
     let mut segments = [0.0; SEGMENTS];
-    let found = gather_cell(cell, plane, tol, &mut segments);
-    stitch::stitch_segments(&segments, found.segments, tol, numbers, nodes, ends)
+    let found = gather_cell(cell, cutting, &mut segments);
+    let segments = &segments[..4 * found.segments];
+    stitch::stitch_segments(segments, cutting.tol, numbers, nodes, ends)
 }

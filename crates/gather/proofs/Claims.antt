@@ -1,6 +1,6 @@
 -- What gathering can answer: few segments, which fit the buffer; and that only the corners matter. Assumes nothing.
 use Rattle.std.specs.Prelude.{Some}
-use mathlib.Core.Path.{◌≡◌, refl, sym, ap, ◌∙◌}
+use mathlib.Core.Path.{◌≡◌, refl, sym, ap}
 use mathlib.Core.List.{List, flatten}
 use Prim.Native.Nat.{ℕ, ◌*◌, ◌≤◌}
 use native.Mathlib.Omega.{arith}
@@ -12,13 +12,13 @@ use Rattle.rows.proofs.Outcomes.{sound_unless}
 use Rattle.vector.specs.Vector.{plane_of}
 use Rattle.vector.specs.declared.Plane.{Plane}
 use Rattle.vector.specs.Rows.{Seg}
-use Rattle.vector.proofs.Rows.{segs_length}
 use Rattle.cell.specs.Types.{space_type}
 use Rattle.cell.specs.Read.{Polygon, Cell, corners_of, space_cell, typed_in_space}
 use Rattle.cell.proofs.Alike.{alike_in_space}
 use Rattle.clip.specs.Cell.{at_most, cut_by}
 use Rattle.clip.specs.Code.{Segments}
 use Rattle.clip.proofs.Bound.{cell_bound}
+use Rattle.clip.proofs.Written.{segments_count}
 use Rattle.cuts.specs.Cuts.{Through, cut_cell, place_in, segments_on}
 use Rattle.cuts.specs.Lines.{told_line}
 use Rattle.cuts.specs.declared.Way.TheVariants.{Normal}
@@ -37,7 +37,7 @@ module _ (f : Plane) (tol : Float) (ps : List Polygon) where
   pub segments_fit : {xs zs : List Float} {r : ℕ} → 6 * length (flatten ps) ≤ length xs → Segments 2 xs (segments_on f tol ps) r zs
       → 2 * (2 * r) ≤ length xs
   segments_fit {zs = zs} {r = r} room h =
-      let e : r ≡ length (segments_on f tol ps) = sym (segs_length 2 r zs) ∙ ap length h.are in
+      let e : r ≡ length (segments_on f tol ps) = segments_count h in
       omega (arith, segments_bounded)
 
 -- ---- what gathering can answer

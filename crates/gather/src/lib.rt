@@ -8,12 +8,15 @@ ghost use Rattle.cuts.specs.Lines.{GaveLine, line_told};
 ghost use Rattle.gather.specs.Gather.{gather_cut};
 
 use cell::Cell;
-use clip::Found;
+use clip::{CuttingPlane, Found};
 use cuts::{Through, Way};
 use rows::Refusal;
 
 // Gathers the segments that a plane cut of the cell stitches, in the plane's own coordinates, four numbers each: those of
 // each face, faces in their order.
+//
+// `slice_line_3d` of line_cut takes the same steps. One function for both, with the work as a closure, was proved: 36 lines more for the
+// ten that go, with clauses about whatever the closure does.
 pub fn gather_cell_by_plane(
     cell: &Cell,
     through: &Through,
@@ -29,5 +32,6 @@ pub fn gather_cell_by_plane(
     if 6 * accepted.corners > numbers.len() {
         return Err(Refusal::ShortBuffer);
     }
-    Ok(cuts::gather_cell(&accepted, plane, tol, numbers))
+    let cutting = CuttingPlane { plane, tol };
+    Ok(cuts::gather_cell(&accepted, &cutting, numbers))
 }

@@ -1,12 +1,12 @@
 -- The points of a loop's nodes, listed one by one. Assumes nothing.
-use mathlib.Core.Path.{◌≡◌, refl, sym, ap, ◌∙◌}
+use mathlib.Core.Path.{◌≡◌, sym, ap, ◌∙◌}
 use mathlib.Core.List.{List, [], ◌∷◌, ◌++◌, map, map-append}
 use Prim.Native.Nat.{ℕ, suc, ◌+◌, ◌*◌, ◌≤◌, ◌<◌}
 use native.Mathlib.Numerals.{add-one}
 use native.Mathlib.Omega.{arith}
 use lib.Ieee.{Float}
 use lib.ListN.{length, get_or, take}
-use lib.Seq.{take-suc, take_all}
+use lib.Seq.{take-suc}
 use Rattle.vector.specs.Vector.{Vector}
 use Rattle.vector.specs.Rows.{put}
 use Rattle.vector.proofs.Rows.{drop_later, rest_put, rows_put}
@@ -18,9 +18,6 @@ pub record Listing (ps : List Vector) (nodes : List ℕ) (xs : List Float) (i : 
   pub listed : Points 2 xs (map (point_at ps) (take i nodes)) i zs
   pub same_length : length zs ≡ length xs
   pub within : i ≤ length nodes
-
-pub listing_start : (ps : List Vector) (nodes : List ℕ) (xs : List Float) → Listing ps nodes xs 0 xs
-listing_start ps nodes xs = record { listed = record { are = refl; rest = refl }; same_length = refl; within = omega arith }
 
 pub listing_step : {ps : List Vector} {nodes : List ℕ} {xs : List Float} {i : ℕ} {zs : List Float} {v : Vector} {ys : List Float}
     → Listing ps nodes xs i zs → i < length nodes → 2 * length nodes ≤ length xs → v ≡ point_at ps (get_or nodes i 0) → length v ≡ 2
@@ -41,9 +38,3 @@ listing_step {ps} {nodes} {xs} {i} {zs} {v} {ys} h j room e l ey ly =
       same_length = ly ∙ h.same_length;
       within = omega arith;
     }
-
-pub listing_end : {ps : List Vector} {nodes : List ℕ} {xs : List Float} {i : ℕ} {zs : List Float} → Listing ps nodes xs i zs
-    → length nodes ≤ i → Points 2 xs (map (point_at ps) nodes) (length nodes) zs
-listing_end {ps} {nodes} {xs} {i} {zs} h j =
-    let e : i ≡ length nodes = omega (arith, h.within) in
-    rw (take_all (length nodes) nodes (omega arith)) at (rw e at h.listed)

@@ -10,12 +10,14 @@ use lib.Seq.{drop-cons, drop-drop, get_or-drop, get_or-take, length-take-le}
 use Rattle.vector.specs.Vector.{Vector, at, scale}
 use Rattle.vector.proofs.Coordinates.{length_each}
 use Rattle.vector.specs.declared.Plane.{Plane}
-use Rattle.vector.specs.Rows.{rows, segs}
+use Rattle.vector.specs.Rows.{all_rows, rows, segs}
 use Rattle.vector.proofs.Rows.{drop_later, segs_length}
 use Rattle.clip.specs.Cell.{at_most}
 use Rattle.clip.specs.Clip.{Cut, plane_section_segments}
 use Rattle.clip.specs.Code.{Points, Segments}
 use Rattle.clip.proofs.Bound.{section_bound}
+use Rattle.clip.proofs.Written.{segments_count}
+use Rattle.vector.proofs.Slices.{slice_rows}
 use Rattle.walk.specs.Walk.{point_at}
 use Rattle.stitch.specs.Code.{cut}
 use Rattle.line_cut.specs.LineCut.{axis, loop_segments, loops_segments, on_line, segment_on_line}
@@ -37,17 +39,16 @@ loop_bound tol ps l = omega (arith, section_bound (axis tol) (map (point_at ps) 
 
 -- the segments of the polygon of a loop's points are the loop's
 module _ (tol : Float) (ps : List Vector) (nodes : List ℕ) where
-  pub loop_segments_lem : {c : Cut} {xs zs flat flat' : List Float} {k : ℕ} → c ≡ axis tol → Points 2 xs (map (point_at ps) nodes) (length nodes)
-      zs
-      → Segments 2 flat (plane_section_segments c (rows 2 (length nodes) zs)) k flat' → Segments 2 flat (loop_segments tol ps nodes) k flat'
-  loop_segments_lem {c} e p h =
-      record {
-        are = h.are ∙ ap (plane_section_segments c) p.are ∙ ap (λ c. plane_section_segments c (map (point_at ps) nodes)) e;
-        rest = h.rest;
-      }
+  pub loop_segments_lem : {c : Cut} {xs zs flat flat' : List Float} {k : ℕ} → c ≡ axis tol → 2 * length nodes ≤ length zs
+      → Points 2 xs (map (point_at ps) nodes) (length nodes) zs
+      → Segments 2 flat (plane_section_segments c (all_rows 2 (take (2 * length nodes) zs))) k flat'
+      → Segments 2 flat (loop_segments tol ps nodes) k flat'
+  loop_segments_lem {c} {zs = zs} e room p h =
+      let lent : all_rows 2 (take (2 * length nodes) zs) ≡ rows 2 (length nodes) zs = slice_rows 2 (length nodes) zs (omega arith) room refl in
+      record { are = h.are ∙ rw (lent, p.are, e); rest = h.rest }
 
   pub loop_few : {flat flat' : List Float} {k : ℕ} → Segments 2 flat (loop_segments tol ps nodes) k flat' → k ≤ at_most (length nodes)
-  loop_few {flat' = flat'} {k = k} h = omega (arith, sym (segs_length 2 k flat') ∙ ap length h.are, loop_bound tol ps nodes)
+  loop_few h = omega (arith, segments_count h, loop_bound tol ps nodes)
 
 -- i of the loops are passed, s nodes and k segments
 pub record LoopsCut (f : Plane) (tol : Float) (ps : List Vector) (nodes ends : List ℕ) (xs : List Float) (i s k : ℕ) (zs : List Float) :
@@ -59,10 +60,6 @@ pub record LoopsCut (f : Plane) (tol : Float) (ps : List Vector) (nodes ends : L
     pub same_length : length zs ≡ length xs
     pub few : k ≤ at_most s
     pub rising : Rising s (drop i ends) (length nodes)
-
-pub loops_start : (f : Plane) (tol : Float) (ps : List Vector) (nodes ends : List ℕ) (xs : List Float) → Rising 0 ends (length nodes)
-    → LoopsCut f tol ps nodes ends xs 0 0 0 xs
-loops_start f tol ps nodes ends xs h = record { total = refl; rest = refl; same_length = refl; few = omega arith; rising = h }
 
 module _ {f : Plane} {tol : Float} {ps : List Vector} {nodes ends : List ℕ} {xs : List Float} {i s k : ℕ} {zs : List Float}
     (v : LoopsCut f tol ps nodes ends xs i s k zs) where
@@ -89,11 +86,10 @@ module _ {f : Plane} {tol : Float} {ps : List Vector} {nodes ends : List ℕ} {x
         length-take-le (get_or ends i 0 - s) (drop s nodes) (omega (arith, loop_from, loop_to, length-drop s nodes))
 
     -- the loop has the room that all loops have
-    pub loop_ready : {p : ℕ} {points polygon clipped flat polygon' clipped' flat' : List Float}
-        → CanCutLoops p points nodes ends polygon clipped flat xs → (e : ℕ) → e ≡ get_or ends i 0
-        → length polygon' ≡ length polygon → length clipped' ≡ length clipped → length flat' ≡ length flat
-        → CanCutLoop p points (loop e) polygon' clipped' flat' × (6 * (k + at_most (length (loop e))) ≤ length zs)
-    loop_ready {p} y e q lp lc lf =
+    pub loop_ready : {points : List Float} {polygon clipped flat : ℕ}
+        → CanCutLoops points nodes ends polygon clipped flat xs → (e : ℕ) → e ≡ get_or ends i 0
+        → CanCutLoop points (loop e) polygon clipped flat × (6 * (k + at_most (length (loop e))) ≤ length zs)
+    loop_ready y e q =
         let l : length (loop e) ≡ e - s = rw q loop_length in
         let low : s ≤ e = omega (arith, loop_from) in
         let high : e ≤ length nodes = omega (arith, loop_to) in
@@ -104,7 +100,6 @@ module _ {f : Plane} {tol : Float} {ps : List Vector} {nodes ends : List ℕ} {x
         let w = a.for_flat in
         let o = y.for_numbers in (
           record {
-            points_room = a.points_room;
             below = λ j h.
                 let t : get_or (loop e) j 0 ≡ get_or nodes (s + j) 0
                 = get_or-take (e - s) (drop s nodes) j 0 (omega arith) ∙ get_or-drop s nodes j 0 in
@@ -137,7 +132,7 @@ module _ {f : Plane} {tol : Float} {ps : List Vector} {nodes ends : List ℕ} {x
         let both : map (segment_on_line f) (loops_segments tol ps (loop e ∷ ls)) ≡ ss ++ later
         = map-append (segment_on_line f) (loop_segments tol ps (loop e)) (loops_segments tol ps ls) in
         let n : r ≡ k + length ss
-        = sym (segs_length 3 r ys) ∙ ap length g.are ∙ length-append (segs 3 k zs) ss ∙ rw (segs_length 3 k zs) in
+        = segments_count g ∙ length-append (segs 3 k zs) ss ∙ rw (segs_length 3 k zs) in
         let o : length ss ≡ length (loop_segments tol ps (loop e)) = length-map (loop_segments tol ps (loop e)) (segment_on_line f) in
         let b = loop_bound tol ps (loop e) in
         let z : length (loop e) ≡ e - s = rw q loop_length in

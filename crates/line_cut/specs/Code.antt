@@ -34,14 +34,13 @@ pub record LoopCut (xs : List Float) (ss : List Seg) (r : Found) (zs : List Floa
 abbrev pub on_line_of : Plane → Float → List Vector → List ℕ → List ℕ → List Seg
 on_line_of f tol ps ends nodes = map (segment_on_line f) (loops_segments tol ps (cut 0 ends nodes))
 
--- nodes among p points, with room for a polygon of them, its clipped points and its segments
-pub record CanCutLoop (p : ℕ) (points : List Float) (nodes : List ℕ) (polygon clipped flat : List Float) : Type 0 where
-  pub points_room : 2 * p ≤ length points
-  pub below : Below p nodes
+-- nodes among the points of a slice, with room for a polygon of them, its clipped points and its segments, in so many numbers
+pub record CanCutLoop (points : List Float) (nodes : List ℕ) (polygon clipped flat : ℕ) : Type 0 where
+  pub below : Below (length points / 2) nodes
   pub few : length nodes ≤ 384
-  pub for_polygon : 2 * length nodes ≤ length polygon
-  pub for_clipped : 2 * at_most (length nodes) ≤ length clipped
-  pub for_flat : 4 * at_most (length nodes) ≤ length flat
+  pub for_polygon : 2 * length nodes ≤ polygon
+  pub for_clipped : 2 * at_most (length nodes) ≤ clipped
+  pub for_flat : 4 * at_most (length nodes) ≤ flat
 
 -- running totals from s on: none is below the one before it, or above m
 abbrev pub Rising : ℕ → List ℕ → ℕ → Type 0
@@ -49,7 +48,7 @@ Rising s [] m = s ≤ m
 Rising s (e ∷ es) m = (s ≤ e) × Rising e es m
 
 -- the nodes of loops that end at running totals, with room for all that is worked out of them
-pub record CanCutLoops (p : ℕ) (points : List Float) (nodes ends : List ℕ) (polygon clipped flat numbers : List Float) : Type 0 where
-  pub each : CanCutLoop p points nodes polygon clipped flat
+pub record CanCutLoops (points : List Float) (nodes ends : List ℕ) (polygon clipped flat : ℕ) (numbers : List Float) : Type 0 where
+  pub each : CanCutLoop points nodes polygon clipped flat
   pub rising : Rising 0 ends (length nodes)
   pub for_numbers : 6 * at_most (length nodes) ≤ length numbers

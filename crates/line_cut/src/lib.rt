@@ -1,8 +1,8 @@
 // A cell in space cut by a line. The answer is segments only.
 #![tactic(auto)]
 
-ghost use Rattle.std.specs.Prelude.{◌≡◌, ◌++◌, map, ◌*◌, ◌+◌, ◌≤◌, length};
-ghost use Rattle.vector.specs.Rows.{rows, segs};
+ghost use Rattle.std.specs.Prelude.{◌≡◌, ◌++◌, map, ◌*◌, ◌+◌, ◌/◌, ◌≤◌, length};
+ghost use Rattle.vector.specs.Rows.{all_rows, all_segs, segs};
 ghost use Rattle.cell.specs.Read.{cell_of, polygons_of, space_cell};
 ghost use Rattle.clip.specs.Cell.{at_most};
 ghost use Rattle.clip.specs.Code.{Points, Segments};
@@ -16,8 +16,8 @@ ghost use Rattle.line_cut.specs.Code.{CanCutLoop, CanCutLoops, LineFits, LineGiv
 
 use cell::Cell;
 use cell::accepted::SpaceCell;
-use clip::Found;
 use clip::polygon::{Cut, plane_section_segments};
+use clip::{CuttingPlane, Found};
 use cuts::{Size, Through, Way};
 use rows::Refusal;
 use vector::{Plane, coord, plus, put, scaled};
@@ -41,19 +41,28 @@ pub fn slice_line_3d(
     if 14 * accepted.corners > numbers.len() {
         return Err(Refusal::ShortBuffer);
     }
-    Ok(line_cell(&accepted, plane, tol, numbers))
+    let cutting = CuttingPlane { plane, tol };
+    Ok(line_cell(&accepted, &cutting, numbers))
 }
 
 // The cut of an accepted cell by the line y = 0 of a plane.
-fn line_cell(cell: &SpaceCell, plane: Plane, tol: f64, numbers: &mut [f64]) -> Found
+fn line_cell(cell: &SpaceCell, cutting: &CuttingPlane, numbers: &mut [f64]) -> Found
     requires { 14 * cell.now.corners ≤ length numbers.old }
-    ensures { LineGiven plane tol (polygons_of (space_cell (cell_of cell.now.cell))) numbers.old result
-        numbers.new }
+    ensures { LineGiven cutting.now.plane cutting.now.tol (polygons_of (space_cell (cell_of cell.now.cell))) numbers.old
+        result numbers.new }
 {
     match Size::of(cell) {
-        Size::Fixed => line_within::<144, 36, 12, 72, 108, 216>(cell, plane, tol, numbers),
-        _ => line_within::<1536, 384, 128, 768, 1152, 2304>(cell, plane, tol, numbers),
+        Size::Fixed => line_within::<144, 36, 12, 72, 108, 216>(cell, cutting, numbers),
+        _ => line_within::<1536, 384, 128, 768, 1152, 2304>(cell, cutting, numbers),
     }
+}
+
+// Scratch for one loop of a section: its polygon, the polygon's clipped points and its segments.
+#[derive(Drop)]
+struct Scratch<const POLYGON: usize, const CLIPPED: usize, const FLAT: usize> {
+    polygon: [f64; POLYGON],
+    clipped: [f64; CLIPPED],
+    flat: [f64; FLAT],
 }
 
 // The section of a cell by the plane, and each of its loops cut by y = 0, with scratch for a section of so many numbers, nodes and ends,
@@ -67,100 +76,81 @@ fn line_within<
     const POLYGON: usize,
     const CLIPPED: usize,
     const FLAT: usize,
->(cell: &SpaceCell, plane: Plane, tol: f64, numbers: &mut [f64]) -> Found
+>(cell: &SpaceCell, cutting: &CuttingPlane, numbers: &mut [f64]) -> Found
     requires { (14 * cell.now.corners ≤ length numbers.old)
         × LineFits NUMBERS NODES ENDS POLYGON CLIPPED FLAT cell.now.corners
         × (NUMBERS ≤ 1536) × (NODES ≤ 384) × (ENDS ≤ 128) × (POLYGON ≤ 768) × (CLIPPED ≤ 1152) × (FLAT ≤ 2304) }
-    ensures { LineGiven plane tol (polygons_of (space_cell (cell_of cell.now.cell))) numbers.old result
-        numbers.new }
+    ensures { LineGiven cutting.now.plane cutting.now.tol (polygons_of (space_cell (cell_of cell.now.cell))) numbers.old
+        result numbers.new }
 {
     let mut points = [0.0; NUMBERS];
     let mut nodes = [0; NODES];
     let mut ends = [0; ENDS];
-    let mut polygon = [0.0; POLYGON];
-    let mut clipped = [0.0; CLIPPED];
-    let mut flat = [0.0; FLAT];
-    let section = cuts::section_cell(cell, plane, tol, &mut points, &mut nodes, &mut ends);
+    let mut scratch = Scratch {
+        polygon: [0.0; POLYGON],
+        clipped: [0.0; CLIPPED],
+        flat: [0.0; FLAT],
+    };
+    let section = cuts::section_cell(cell, cutting, &mut points, &mut nodes, &mut ends);
     cut_loops(
-        &points,
-        section.points,
+        &points[..2 * section.points],
         &nodes[..section.nodes],
         &ends[..section.loops],
-        plane,
-        tol,
-        &mut polygon,
-        &mut clipped,
-        &mut flat,
+        cutting,
+        &mut scratch,
         numbers,
     )
 }
 
 // Cuts each loop by y = 0 and writes the segments on the line. Gives how many there are.
-fn cut_loops(
+fn cut_loops<const POLYGON: usize, const CLIPPED: usize, const FLAT: usize>(
     points: &[f64],
-    p: usize,
     nodes: &[u32],
     ends: &[u32],
-    plane: Plane,
-    tol: f64,
-    polygon: &mut [f64],
-    clipped: &mut [f64],
-    flat: &mut [f64],
+    cutting: &CuttingPlane,
+    scratch: &mut Scratch<POLYGON, CLIPPED, FLAT>,
     numbers: &mut [f64],
 ) -> Found
-    requires { CanCutLoops p points.now nodes.now ends.now polygon.old clipped.old flat.old numbers.old }
+    requires { CanCutLoops points.now nodes.now ends.now POLYGON CLIPPED FLAT numbers.old }
     ensures { LoopCut numbers.old
-        (on_line_of plane tol (rows 2 p points.now) ends.now nodes.now)
+        (on_line_of cutting.now.plane cutting.now.tol (all_rows 2 points.now) ends.now nodes.now)
         result numbers.new }
 {
     let mut k = 0;
     let mut s = 0;
     for &end in ends {
         let e = end as usize;
-        let found = cut_loop(
-            points,
-            p,
-            &nodes[s..e],
-            plane,
-            tol,
-            polygon,
-            clipped,
-            flat,
-            numbers,
-            k,
-        );
+        let found = cut_loop(points, &nodes[s..e], cutting, scratch, numbers, k);
         k = found.segments;
         s = e;
     }
     Found { segments: k }
 }
 
-// Cuts one loop by y = 0: its segments on the line, after the `from` in numbers. Tells how many there are then.
-fn cut_loop(
+// Cuts one loop by y = 0: its segments on the line, after the `from` in numbers, where they grow in place. Tells how many there are then.
+fn cut_loop<const POLYGON: usize, const CLIPPED: usize, const FLAT: usize>(
     points: &[f64],
-    p: usize,
     nodes: &[u32],
-    plane: Plane,
-    tol: f64,
-    polygon: &mut [f64],
-    clipped: &mut [f64],
-    flat: &mut [f64],
+    cutting: &CuttingPlane,
+    scratch: &mut Scratch<POLYGON, CLIPPED, FLAT>,
     numbers: &mut [f64],
     from: usize,
 ) -> Found
-    requires { CanCutLoop p points.now nodes.now polygon.old clipped.old flat.old
+    requires { CanCutLoop points.now nodes.now POLYGON CLIPPED FLAT
         × (6 * (from + at_most (length nodes.now)) ≤ length numbers.old) }
     ensures { LoopCut numbers.old
         (segs 3 from numbers.old
-        ++ map (segment_on_line plane)
-        (loop_segments tol (rows 2 p points.now) nodes.now))
+        ++ map (segment_on_line cutting.now.plane)
+        (loop_segments cutting.now.tol (all_rows 2 points.now) nodes.now))
         result numbers.new }
 {
-    loop_points(points, p, nodes, polygon);
-    let cut = axis(tol);
-    let found = plane_section_segments(polygon, nodes.len(), &cut, clipped, flat);
+    loop_points(points, nodes, &mut scratch.polygon);
+    let cut = axis(cutting.tol);
+    let polygon = &scratch.polygon[..2 * nodes.len()];
+    let found = plane_section_segments(polygon, &cut, &mut scratch.clipped, &mut scratch.flat);
+    let flat = &scratch.flat[..4 * found.segments];
     Found {
-        segments: put_on_line(flat, found.segments, plane, numbers, from),
+        segments: put_on_line(flat, cutting.plane, numbers, from),
     }
 }
 
@@ -176,9 +166,9 @@ fn axis(tol: f64) -> Cut<2>
 }
 
 // The points of a loop, one after the other, written to out.
-fn loop_points(points: &[f64], p: usize, nodes: &[u32], out: &mut [f64])
-    requires { (2 * p ≤ length points.now) × Below p nodes.now × (2 * length nodes.now ≤ length out.old) }
-    ensures { Points 2 out.old (map (point_at (rows 2 p points.now)) nodes.now)
+fn loop_points(points: &[f64], nodes: &[u32], out: &mut [f64])
+    requires { Below (length points.now / 2) nodes.now × (2 * length nodes.now ≤ length out.old) }
+    ensures { Points 2 out.old (map (point_at (all_rows 2 points.now)) nodes.now)
         (length nodes.now) out.new }
 {
     for (i, &node) in nodes.iter().enumerate() {
@@ -186,13 +176,14 @@ fn loop_points(points: &[f64], p: usize, nodes: &[u32], out: &mut [f64])
     }
 }
 
-// Writes k segments as points of the line, after the `from` in out. Gives how many there are then.
-fn put_on_line(flat: &[f64], k: usize, plane: Plane, out: &mut [f64], from: usize) -> usize
-    requires { (4 * k ≤ length flat.now) × (6 * (from + k) ≤ length out.old) }
+// Writes segments as points of the line, after the `from` in out. Gives how many there are then.
+fn put_on_line(flat: &[f64], plane: Plane, out: &mut [f64], from: usize) -> usize
+    requires { 6 * (from + length flat.now / 4) ≤ length out.old }
     ensures { Segments 3 out.old
-        (segs 3 from out.old ++ map (segment_on_line plane) (segs 2 k flat.now))
+        (segs 3 from out.old ++ map (segment_on_line plane) (all_segs 2 flat.now))
         result out.new }
 {
+    let k = flat.len() / 4;
     for i in 0..k {
         let j = 2 * (from + i);
         put(out, j, on_line(coord(flat, 2 * i), plane));

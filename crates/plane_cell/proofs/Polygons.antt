@@ -1,13 +1,12 @@
 -- An accepted cell in the plane is one polygon, which is what clipping reads of its copy. Assumes nothing.
-use mathlib.Core.Path.{◌≡◌, sym, ap, ◌∙◌, subst}
+use mathlib.Core.Path.{◌≡◌, refl, sym, ap, ◌∙◌, subst}
 use mathlib.Core.List.{List, [], ◌∷◌, append-nil, map, flatten}
 use Prim.Native.Nat.{ℕ, ◌*◌, ◌≤◌}
 use native.Mathlib.Omega.{arith}
 use lib.Ieee.{Float}
-use lib.ListN.{length, drop}
+use lib.ListN.{length, take, drop}
 use Rattle.rows.specs.Outcome.{found}
-use Rattle.vector.specs.Rows.{rows, over}
-use Rattle.vector.proofs.Rows.{segs_length}
+use Rattle.vector.specs.Rows.{all_rows, over, rows}
 use Rattle.cell.specs.Types.{plane_corners}
 use Rattle.cell.specs.Faces.{from}
 use Rattle.cell.specs.declared.accepted.PlaneCell.{PlaneCell}
@@ -17,6 +16,8 @@ use Rattle.cell.proofs.Bounds.{plane_bounded}
 use Rattle.clip.specs.Clip.{Cut, plane_section_segments}
 use Rattle.clip.specs.Code.{Segments}
 use Rattle.clip.proofs.Bound.{section_bound}
+use Rattle.clip.proofs.Written.{segments_count}
+use Rattle.vector.proofs.Slices.{slice_rows}
 use Rattle.walk.specs.Walk.{All}
 use Rattle.cuts.proofs.Sizes.{Wide, passed_wide, rows_back}
 use Rattle.plane_cell.specs.PlaneCell.{polygon_segments}
@@ -56,16 +57,16 @@ module _ (k : PlaneCell) {j : Cell} (e : cell_of k.cell ≡ j) where
 
 -- the copy of the corners, read back
 pub copied_segments : (k : Cell) (a : Accepted (plane_cell k)) {n : ℕ} {out out' : List Float} → n ≡ corners_of (plane_cell k)
-    → CopiedPolygon (polygons_of (plane_cell k)) out out' → (l : Cut)
-    → plane_section_segments l (rows 2 n out') ≡ polygon_segments l (polygons_of (plane_cell k))
-copied_segments k a {n} {out} {out'} e h l =
+    → 2 * n ≤ length out' → CopiedPolygon (polygons_of (plane_cell k)) out out' → (l : Cut)
+    → plane_section_segments l (all_rows 2 (take (2 * n) out')) ≡ polygon_segments l (polygons_of (plane_cell k))
+copied_segments k a {n} {out} {out'} e room h l =
     let ps = polygons_of (plane_cell k) in
     let o = one_polygon k ps a in
     let p = o.polygon in
     let m : n ≡ length p = e ∙ ap length (in_one o) in
     let w : out' ≡ over (flatten p) out = h.coords ∙ ap (λ q. over (flatten q) out) (in_one o) in
-    let back : rows 2 n out' ≡ p
-    = ap (λ i. rows 2 i out') m ∙ ap (rows 2 (length p)) w ∙ rows_back 2 p o.wide (drop (length (flatten p)) out) in
+    let back : all_rows 2 (take (2 * n) out') ≡ p
+    = slice_rows 2 n out' (omega arith) room refl ∙ ap (λ i. rows 2 i out') m ∙ ap (rows 2 (length p)) w ∙ rows_back 2 p o.wide (drop (length (flatten p)) out) in
     ap (plane_section_segments l) back ∙ sym (ap (polygon_segments l) o.is)
 
 -- they fit six numbers for each corner
@@ -76,5 +77,5 @@ segments_fit k a l {out = out} {r = r} room g =
     let ps = polygons_of (plane_cell k) in
     let o = one_polygon k ps a in
     let e : polygon_segments l ps ≡ plane_section_segments l o.polygon = ap (polygon_segments l) o.is in
-    let n : r ≡ length (polygon_segments l ps) = sym (segs_length 2 r out) ∙ ap length g.are in
+    let n : r ≡ length (polygon_segments l ps) = segments_count g in
     omega (arith, ap length e, section_bound l o.polygon, ap length (in_one o))

@@ -89,5 +89,5 @@ fn line_within<const CORNERS: usize, const POINTS: usize>(
     let mut polygon = [0.0; CORNERS];
     let mut points = [0.0; POINTS];
     cell.copy(&mut polygon);
-    plane_section_segments(&polygon, cell.corners, cut, &mut points, numbers)
+    plane_section_segments(&polygon[..2 * cell.corners], cut, &mut points, numbers)
 }

@@ -1,7 +1,6 @@
 -- The theorems about the plane cut. Assumes nothing.
 use Rattle.std.specs.Prelude.{Some}
 use mathlib.Core.Path.{◌≡◌, ap}
-use mathlib.Core.Bool.{true}
 use mathlib.Core.List.{List, flatten}
 use Prim.Native.Nat.{ℕ, ◌*◌, ◌/◌, ◌≤◌}
 use native.Mathlib.Omega.{arith}
@@ -21,24 +20,16 @@ use Rattle.cell.proofs.Bounds.{space_bounded}
 use Rattle.clip.specs.Cell.{at_most, corners, cut_by}
 use Rattle.clip.proofs.Bound.{cell_bound}
 use Rattle.stitch.specs.Stitch.{rule_of}
-use Rattle.stitch.specs.Entry.{lengths, buffers, room}
+use Rattle.stitch.specs.Entry.{lengths, room}
 use Rattle.stitch.proofs.Claim.{claim}
-use Rattle.stitch.proofs.Entries.{fits, of_answer, small_answer, small_told}
+use Rattle.stitch.proofs.Entries.{of_answer, small_answer, small_told}
 use Rattle.cuts.specs.Cuts.{cut_cell, place_in, section_of, segments_on}
-use Rattle.cuts.specs.Code.{Roomy}
 use Rattle.cuts.specs.declared.Way.TheVariants.{Normal}
 use Rattle.cuts.proofs.Cutting.{cut_sound}
 use Rattle.cuts.proofs.Placed.{place_sound}
 use Rattle.cuts.proofs.Sizes.{corners_in_all, found_few}
 use Rattle.plane_cut.specs.PlaneCut.{AlikeByPlane, PlaneClaim, PlaneSection, PlaneSmall, PlaneSound, SegmentsBounded}
 use Rattle.plane_cut.specs.PlaneCut.{most_segments, plane_cut, section_in}
-
--- there is room
-pub roomy : {m : ℕ} (numbers : List Float) (nodes ends : List ℕ) → room (6 * m) (3 * m / 2) (m / 2) (lengths (buffers numbers nodes ends)) ≡ true
-    → Roomy m numbers nodes ends
-roomy {m} numbers nodes ends w =
-    let f = fits (6 * m) (3 * m / 2) (m / 2) (lengths (buffers numbers nodes ends)) w in
-    record { for_numbers = f.0; for_nodes = f.1; for_ends = f.2 }
 
 -- ---- how many segments
 

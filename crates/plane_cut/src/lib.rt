@@ -7,6 +7,7 @@ ghost use Rattle.cuts.specs.Code.{through_of};
 ghost use Rattle.plane_cut.specs.PlaneCut.{plane_cut};
 
 use cell::Cell;
+use clip::CuttingPlane;
 use cuts::{Through, Way};
 use rows::Refusal;
 use stitch::Stitched;
@@ -41,5 +42,6 @@ pub fn section_cell_by_plane(
     ) {
         return Err(Refusal::ShortBuffer);
     }
-    Ok(cuts::section_cell(&accepted, plane, tol, numbers, nodes, ends))
+    let cutting = CuttingPlane { plane, tol };
+    Ok(cuts::section_cell(&accepted, &cutting, numbers, nodes, ends))
 }

@@ -1,6 +1,6 @@
 -- `root` is the whole part of the square root, and a number q that is within a half of the root of w / 4 ^ k is what `root_of` keeps.
 -- Assumes nothing.
-use Rattle.std.proofs.Common.{◌≡◌, ℕ, zero, suc, ◌+◌, ◌-◌, ◌*◌, ◌/◌, ◌^◌, ◌<◌, ◌≤◌, Bool, true, false, cond, not, T, ltb, leb, ◌⊎◌, refl, ap, ◌∙◌, subst, inl, inr, lt_of_lt_of_le, le_of_suc-le-suc, lt_of_le_of_lt, div-lt_iff_lt-mul, mul-le-mul, le_antisymm, lt_of_not-le, le-div_iff_mul-le, div-le_self, not-le_of_lt, arith, lit≤, ltb→lt, leb→le, nltb→le, pow_pos, pow_mono}
+use Rattle.std.proofs.Common.{◌≡◌, ℕ, zero, suc, ◌+◌, ◌-◌, ◌*◌, ◌/◌, ◌^◌, ◌<◌, ◌≤◌, Bool, true, false, cond, not, T, leb, ◌⊎◌, refl, ap, ◌∙◌, subst, inl, inr, lt_of_lt_of_le, le_of_suc-le-suc, lt_of_le_of_lt, div-lt_iff_lt-mul, mul-le-mul, le_antisymm, lt_of_not-le, le-div_iff_mul-le, div-le_self, not-le_of_lt, arith, lit≤, leb→le, pow_pos, pow_mono}
 use Prim.Native.Nat.compare
 use Prim.Native.Nat.{Ordering}
 use Prim.Native.Nat.{compare}
@@ -8,17 +8,12 @@ use native.Mathlib.Nat.{one-le-pow, pow-le-pow_left, pow-succ'}
 use lib.Dec.{nleb→lt}
 use lib.Ieee.{Format, prec, low, size, nearest, units}
 use lib.Ieee.Digits.{size-lt, size-le}
+use Rattle.std.proofs.lemmas.Bool.{cases_lt}
+-- clip has it from here
 use Rattle.root.specs.Root.{root, root_of}
 use Rattle.root.specs.Code.{Whole}
 
 -- ---- comparing
-pub lt_or_le : (a b : ℕ) → (a < b) ⊎ (b ≤ a)
-lt_or_le a b = go (ltb a b) (ltb→lt a b) (nltb→le a b)
-  where
-    go : (t : Bool) → (T t → a < b) → (T (not t) → b ≤ a) → (a < b) ⊎ (b ≤ a)
-    go true x y = inl (x tt)
-    go false x y = inr (y tt)
-
 none_below : (a : ℕ) → a < 0 → ⊥
 none_below a h = omega arith
 
@@ -90,7 +85,7 @@ Near w u q = (4 * (q * q) * u + u < 4 * w + 4 * q * u) × (4 * w < (2 * q + 1) *
 
 -- the kept number, from the whole part a of the root of w / u
 kept : (w u q a : ℕ) → 0 < u → Near w u q → Whole (w / u) a → nearest a (compare (4 * w) ((2 * a + 1) * (2 * a + 1) * u)) ≡ q
-kept w u q a U near fl = go (lt_or_le w (q * q * u))
+kept w u q a U near fl = go (cases_lt w (q * q * u))
   where
     up : (b : ℕ) → b * b * u ≤ w → b * b ≤ w / u
     up b h = (le-div_iff_mul-le U).1 h
@@ -110,7 +105,7 @@ kept w u q a U near fl = go (lt_or_le w (q * q * u))
         ap (λ (b : ℕ). nearest b (compare (4 * w) ((2 * b + 1) * (2 * b + 1) * u))) (at q g (omega arith))
         ∙ ap (nearest q) (compare_lt (4 * w) ((2 * q + 1) * (2 * q + 1) * u) near.1)
 
-drop_all : (p k z : ℕ) → z ≡ p + k → z - p ≡ k
+pub drop_all : (p k z : ℕ) → z ≡ p + k → z - p ≡ k
 drop_all p k z e = omega arith
 
 -- w has 2 * (p + k) digits or one less, so its root has p + k

@@ -3,7 +3,7 @@ use Rattle.std.proofs.Common.{◌≡◌, ℕ, zero, suc, ◌+◌, ◌-◌, ◌*�
 use lib.Ieee.{Format, prec, low}
 use lib.Ieee.Digits.{back}
 use lib.Ieee.Fits.{two}
-use Rattle.root.proofs.Floor.{lt_or_le}
+use Rattle.std.proofs.lemmas.Bool.{cases_lt}
 use Rattle.root.proofs.Steps.{four_is}
 use Rattle.root.proofs.Rounds.{mid, Root}
 
@@ -30,7 +30,7 @@ module _ (f : Format) (n : ℕ) (r : Root f n)
       steps p i k P h = omega arith
 
   pub nearest_above : r.q * 2 ^ r.k < c * 2 ^ i → 4 * (n * 2 ^ low f) < (r.q * 2 ^ r.k + c * 2 ^ i) * (r.q * 2 ^ r.k + c * 2 ^ i)
-  nearest_above h = go (lt_or_le i r.k)
+  nearest_above h = go (cases_lt i r.k)
     where
       step : (q e s u W : ℕ) → u ≡ s * s → q * s < e * s → W < mid u q → W < (q * s + e * s) * (q * s + e * s)
       step q e s u W eu l m =
@@ -50,7 +50,7 @@ module _ (f : Format) (n : ℕ) (r : Root f n)
           (subst (λ (y : ℕ). r.q * 2 ^ r.k < y) e h) over_q)
 
   pub nearest_below : c * 2 ^ i < r.q * 2 ^ r.k → (r.q * 2 ^ r.k + c * 2 ^ i) * (r.q * 2 ^ r.k + c * 2 ^ i) < 4 * (n * 2 ^ low f)
-  nearest_below h = go (lt_or_le i r.k)
+  nearest_below h = go (cases_lt i r.k)
     where
       -- y is at most (q - 1) steps
       none : (s y : ℕ) → 0 < s → y + s ≤ 0 * s → ⊥

@@ -7,7 +7,7 @@ use lib.Ieee.Fits.{odd-fits, cond-fits, inf-fits, down_pos, two}
 use lib.Ieee.Exact.{HasValue, units_val}
 use lib.Ieee.Bits.{of_bits-to_bits}
 use Rattle.root.specs.Root.{root_of, sqrt_of}
-use Rattle.root.proofs.Floor.{size_is}
+use Rattle.root.proofs.Floor.{drop_all, size_is}
 
 -- ---- at a value of a units
 units_of : (f : Format) (m : ℕ) (d a : ℕ) → 0 < d → m * 2 ^ low f ≡ a * d → m * 2 ^ low f / d ≡ a
@@ -39,9 +39,6 @@ units_fits f q k a b =
 lead : (p k : ℕ) → 2 ≤ p → suc (p - 1 + k) ≡ p + k
 lead p k h = omega arith
 
-drop : (p k z : ℕ) → z ≡ p + k → z - p ≡ k
-drop p k z e = omega arith
-
 pub pack : (f : Format) (q k : ℕ) → hid f ≤ q → q < 2 ^ prec f → q * 2 ^ k < 2 ^ (low f + suc (emax f))
     → of_bits f (k * hid f + q) ≡ units f false q k
 pack f q k lo hi fine =
@@ -54,7 +51,7 @@ pack f q k lo hi fine =
     ∙ lead p k (two f) in
     let bits : to_bits f v ≡ k * hid f + q =
     to_bits_at f v a (units_val f false q k fine)
-    ∙ ap (λ (j : ℕ). 0 + j * hid f + a / 2 ^ j) (drop p k (size a) z)
+    ∙ ap (λ (j : ℕ). 0 + j * hid f + a / 2 ^ j) (drop_all p k (size a) z)
     ∙ ap (λ (x : ℕ). 0 + k * hid f + x) (mul-div_cancel q (pow_pos k))
     ∙ ap (λ (x : ℕ). x + q) (zero-add (k * hid f)) in
     ap (of_bits f) (sym bits) ∙ of_bits-to_bits f v (units_fits f q k (le_of_lt hi) fine)

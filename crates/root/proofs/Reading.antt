@@ -8,7 +8,7 @@ use lib.Ieee.Fits.{down_pos}
 use lib.Ieee.Bits.{is_true, is_false, cond_no, nan_bits_above}
 use lib.Ieee.Exact.{HasValue, odd_sign}
 use Rattle.root.specs.Root.{root_of, sqrt_of}
-use Rattle.root.proofs.Floor.{lt_or_le}
+use Rattle.std.proofs.lemmas.Bool.{cases_lt}
 use Rattle.root.proofs.Pack.{sqrt_of_at}
 
 -- ---- which patterns are no NaN's
@@ -93,7 +93,7 @@ minus b h =
 
 pub negative : (b : ℕ) → b < 2 ^ 64 → 2 ^ 63 < b → T (not (nan_bits binary64 b)) → sqrt_of binary64 (of_bits binary64 b) ≡ nan
 negative b w h n =
-    ap (sqrt_of binary64) (minus b (omega arith)) ∙ go (lt_or_le (b % 2 ^ 63) (2 ^ 52)) (lt_or_le (b % 2 ^ 63) (2047 * 2 ^ 52))
+    ap (sqrt_of binary64) (minus b (omega arith)) ∙ go (cases_lt (b % 2 ^ 63) (2 ^ 52)) (cases_lt (b % 2 ^ 63) (2047 * 2 ^ 52))
   where
     go : (b % 2 ^ 63 < 2 ^ 52) ⊎ (2 ^ 52 ≤ b % 2 ^ 63) → (b % 2 ^ 63 < 2047 * 2 ^ 52) ⊎ (2047 * 2 ^ 52 ≤ b % 2 ^ 63)
         → sqrt_of binary64 (of_fields binary64 true (b % 2 ^ 63 / 2 ^ 52) (b % 2 ^ 52)) ≡ nan

@@ -7,7 +7,8 @@ use lib.Ieee.Nearest.{nearest-ge}
 use lib.Ieee.Fits.{two, nearest-le}
 use Rattle.root.specs.Root.{root, root_of}
 use Rattle.root.specs.Code.{Whole}
-use Rattle.root.proofs.Floor.{lt_or_le, compare_lt, compare_gt, compare_eq, four_pos, root_floor, below_four, root_of_is, square_lt_back}
+use Rattle.std.proofs.lemmas.Bool.{cases_lt}
+use Rattle.root.proofs.Floor.{compare_lt, compare_gt, compare_eq, four_pos, root_floor, below_four, root_of_is, square_lt_back}
 use Rattle.root.proofs.Steps.{four_is}
 
 -- 4 * w against the square of the number half-way between b and b + 1, in steps of the root of u
@@ -53,7 +54,7 @@ module _ (w u a : ℕ) (U : 0 < u) (lo : a * a * u ≤ w) (hi : w < (a + 1) * (a
   }
 
   pub rounded : Rounds w u (nearest a (compare (4 * w) (mid u a)))
-  rounded = go (lt_or_le (4 * w) (mid u a))
+  rounded = go (cases_lt (4 * w) (mid u a))
     where
       more : (mid u a ≡ 4 * w) ⊎ (mid u a < 4 * w) → Rounds w u (nearest a (compare (4 * w) (mid u a)))
       more (inl e) = subst (λ (o : Ordering). Rounds w u (nearest a o)) (sym (compare_eq (4 * w) (mid u a) (sym e))) (case_eq (sym e))

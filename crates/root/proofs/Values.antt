@@ -1,21 +1,16 @@
 -- The values of a format in units of its smallest one: they are whole numbers of units, of `prec` digits and zeros, and bounded. Assumes
 -- nothing.
-use Rattle.std.proofs.Common.{◌≡◌, ℕ, zero, suc, ◌+◌, ◌-◌, ◌*◌, ◌/◌, ◌%◌, ◌^◌, ◌<◌, ◌≤◌, true, false, ◌&&◌, T, eqb, ltb, leb, ◌⊎◌, ℤ, pos, negsuc, sym, refl, ap, ◌∙◌, subst, inl, inr, true≢false, le_of_eq, lt_of_lt_of_le, lt_irrefl, mul_assoc, lt_of_mul-lt-mul_right, mul-lt-mul_of_pos_right, mul-pos, mul-one, mul_right_comm, mul-div_cancel, arith, ltb→lt, leb→le, pow_pos, pow-add}
+use Rattle.std.proofs.Common.{◌≡◌, ℕ, zero, suc, ◌+◌, ◌-◌, ◌*◌, ◌/◌, ◌%◌, ◌^◌, ◌<◌, ◌≤◌, true, false, ◌&&◌, T, eqb, ltb, leb, ℤ, pos, negsuc, sym, refl, ap, ◌∙◌, subst, true≢false, le_of_eq, le_of_suc-le-suc, lt_of_lt_of_le, lt_of_not-le, lt_irrefl, mul_assoc, lt_of_mul-lt-mul_right, mul-lt-mul_of_pos_right, mul-pos, mul-one, mul_right_comm, mul-div_cancel, arith, ltb→lt, leb→le, pow_pos, pow-add}
 use native.Mathlib.Nat.{eq_of_mul-eq-mul_right}
 use lib.Pow.{pow-lt}
 use lib.Ieee.{Float, nan, inf, fin, Format, prec, emax, low, up, down, fits}
 use lib.Ieee.Digits.{back}
 use lib.Ieee.Fits.{and_l, and_r, down_pos}
 use lib.Ieee.Exact.{HasValue}
-use Rattle.root.proofs.Floor.{lt_or_le}
 
 -- ---- a value of the format, in units
 pow_le_back : (a l : ℕ) → 2 ^ a ≤ 2 ^ l → a ≤ l
-pow_le_back a l h = pick (lt_or_le l a)
-  where
-    pick : (l < a) ⊎ (a ≤ l) → a ≤ l
-    pick (inl g) = absurd (lt_irrefl (2 ^ l) (lt_of_lt_of_le (pow-lt g) h))
-    pick (inr g) = g
+pow_le_back a l h = le_of_suc-le-suc (lt_of_not-le (λ (g : suc l ≤ a). lt_irrefl (2 ^ l) (lt_of_lt_of_le (pow-lt g) h)))
 
 -- what `fits` says of a value above zero
 held : (f : Format) (m : ℕ) (e : ℤ) → T (fits f (fin false (suc m) e))

@@ -1,15 +1,15 @@
--- Lists of lists: joined, mapped, and where each ends in a row; and a list written over the start of another. Assumes nothing.
+-- Lists of lists: joined, mapped, and where each ends in a row; a list written over the start of another; and a row of a flat list.
+-- Assumes nothing.
 use mathlib.Core.Path.{◌≡◌, refl, sym, ap, ◌∙◌}
 use mathlib.Core.List.{List, [], ◌∷◌, ◌++◌, append_assoc, append-nil, map, flatten, map-append}
-use Prim.Native.Nat.{ℕ, suc, ◌+◌}
+use Prim.Native.Nat.{ℕ, suc, ◌+◌, ◌*◌, ◌≤◌, ◌<◌}
 use native.Mathlib.Omega.{arith}
-use native.Mathlib.Nat.{add-zero, zero-add}
-use lib.ListN.{length, take, drop, length-append, length-map}
-use lib.Seq.{paste, take_at, drop_at, take-length, drop-drop}
-use Rattle.rows.specs.Rows.{ends_from, over}
-
-pub length_snoc : {A : Type 0} (l : List A) (x : A) → length (l ++ x ∷ []) ≡ length l + 1
-length_snoc l x = length-append l (x ∷ [])
+use native.Mathlib.Nat.{add-zero, mul-suc, mul-le-mul_left}
+use lib.Ieee.{Float}
+use lib.ListN.{length, get_or, take, drop, length-append, length-drop, length-map}
+use lib.Seq.{paste, take_at, drop_at, take-length, drop-drop, length-take-le}
+use Rattle.std.proofs.lemmas.List.{get_or-take, get_or-drop}
+use Rattle.rows.specs.Rows.{ends_from, over, row}
 
 pub flatten_snoc : {A : Type 0} (ls : List (List A)) (l : List A) → flatten (ls ++ l ∷ []) ≡ flatten ls ++ l
 unfolding flatten
@@ -41,9 +41,6 @@ unfolding ends_from
 length_ends n [] = refl
 length_ends n (l ∷ ls) = ap suc (length_ends (n + length l) ls)
 
-pub paste_over : {A : Type 0} (ws xs : List A) → paste xs 0 ws (length ws) ≡ over ws xs
-paste_over ws xs = ap (λ l. l ++ drop (0 + length ws) xs) (take-length ws) ∙ ap (λ n. ws ++ drop n xs) (zero-add (length ws))
-
 pub flatten_append : {A : Type 0} (l m : List (List A)) → flatten (l ++ m) ≡ flatten l ++ flatten m
 unfolding flatten
 flatten_append [] m = refl
@@ -64,3 +61,15 @@ over_more g s out₀ out a e f =
 -- the ends that are written over a longer slice
 pub ends_taken : {A : Type 0} (ps : List (List A)) (ends : List ℕ) → take (length ps) (over (ends_from 0 ps) ends) ≡ ends_from 0 ps
 ends_taken ps ends = take_at (ends_from 0 ps) (drop (length (ends_from 0 ps)) ends) (length ps) (length_ends 0 ps)
+
+-- ---- row i, of w numbers
+
+-- it is inside n rows
+pub row_fits : (w n : ℕ) {i l : ℕ} → i < n → w * n ≤ l → w * i + w ≤ l
+row_fits w n {i} {l} h room = let e = mul-le-mul_left w h in let f = mul-suc w i in omega arith
+
+pub row_length : (w : ℕ) (xs : List Float) (i : ℕ) → w * i + w ≤ length xs → length (row w xs i) ≡ w
+row_length w xs i h = length-take-le w (drop (w * i) xs) (omega (arith, length-drop (w * i) xs))
+
+pub row_at : (w : ℕ) (xs : List Float) (i k : ℕ) (d : Float) → k < w → get_or (row w xs i) k d ≡ get_or xs (w * i + k) d
+row_at w xs i k d h = rw (get_or-take, get_or-drop)

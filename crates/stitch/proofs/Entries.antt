@@ -18,11 +18,9 @@ use Rattle.weld.specs.Weld.{listed_edges}
 use Rattle.weld.proofs.Edges.{listed_few}
 use Rattle.stitch.specs.Stitch.{Answer, rule_of, stitched}
 use Rattle.stitch.specs.Claim.{Claim}
-use Rattle.stitch.specs.Code.{AnswerGiven}
-use Rattle.stitch.specs.Entry.{Buffers, buffers, Lengths, lengths, room, Told, told, told_refused, told_answer, Gave, answer_read}
+use Rattle.stitch.specs.Entry.{Buffers, Lengths, lengths, room, Told, told, told_refused, told_answer, Gave, answer_read}
 use Rattle.stitch.specs.Entry.{stitch_alone, StitchSection, StitchSound, StitchClaim, Small, StitchSmall}
 use Rattle.stitch.specs.declared.Rule.{Rule}
-use Rattle.stitch.specs.declared.Stitched.{Stitched}
 use Rattle.stitch.proofs.Claim.{claim}
 use Rattle.stitch.proofs.Counted.{counts_listed}
 use Rattle.stitch.proofs.Welded.{read_back}
@@ -32,20 +30,6 @@ pub gave_refusal : {o : Outcome Answer} {k : ℕ} (b : Buffers) → o ≡ refuse
 unfolding flatten ends_from
 gave_refusal b e =
     rw e (record { told_is = refl; numbers_are = refl; points_are = refl; nodes_are = refl; ends_are = refl })
-
--- a section is what stitching answered
-pub gave_section : {o : Outcome Answer} {a : Answer} {r : Stitched} {numbers numbers' : List Float} {nodes nodes' ends ends' : List ℕ}
-    → o ≡ found a → AnswerGiven a r numbers numbers' nodes nodes' ends ends'
-    → Gave o (record { refusal = 0; answer = r }) (buffers numbers nodes ends) (buffers numbers' nodes' ends')
-gave_section e g =
-    rw e
-    (record {
-      told_is = rw (g.point_count, g.node_count, g.loop_count, g.counts_are);
-      numbers_are = g.numbers_are;
-      points_are = g.points_are;
-      nodes_are = g.nodes_are;
-      ends_are = g.ends_are;
-    })
 
 -- ---- the tests of stitching alone
 

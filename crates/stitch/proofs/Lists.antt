@@ -2,7 +2,7 @@
 use mathlib.Core.Path.{◌≡◌, refl}
 use mathlib.Core.List.{List, [], ◌∷◌, ◌++◌}
 use Prim.Native.Nat.{ℕ, ◌+◌, ◌≤◌, ◌<◌}
-use native.Mathlib.Decide.{dec_lt}
+use native.Mathlib.Nat.{lt_of_not-le}
 use native.Mathlib.Omega.{arith}
 use lib.Dec.{eqb}
 use borrow.Author.Tests.{eq-eqb}
@@ -21,11 +21,7 @@ pub record Fair (n : ℕ) (ks : List ℕ) : Type 0 where
   pub below : (k : ℕ) → n ≤ k → times k ks ≡ 0
 
 pub fair_head : (n k : ℕ) (ks : List ℕ) → Fair n (k ∷ ks) → k < n
-fair_head n k ks f = by_test (dec_lt k n)
-  where
-    by_test : Dec (k < n) → k < n
-    by_test (yes l) = l
-    by_test (no d) = let z = f.below k (omega (arith, d)) in let s = times_self k in absurd (omega arith)
+fair_head n k ks f = lt_of_not-le (λ (h : n ≤ k). let z = f.below k h in let s = times_self k in absurd (omega arith))
 
 -- the head does not stand in the tail
 pub fair_apart : (n k : ℕ) (ks : List ℕ) → Fair n (k ∷ ks) → times k ks ≡ 0

@@ -51,12 +51,6 @@ module _ (ps : List Vector) (es : List Edge) (n : ℕ) (w : Within es n) where
       below_cons a (rest ps es (length es) (eqb b a) (next_edge ps es us' a b) a b us').nodes n (w k h).0
       (rest_below (length es) (eqb b a) (next_edge ps es us' a b) a a b us' refl (w k h).1)
 
--- ---- a mark read with another default
-pub read_mark : (us : List Bool) (k : ℕ) → k < length us → get_or us k false ≡ get_or us k true
-read_mark [] k h = absurd (not-suc-le-zero h)
-read_mark (u ∷ us) zero h = refl
-read_mark (u ∷ us) (suc k) h = read_mark us k (omega arith)
-
 -- what a loop asks: room for its end, as many nodes as edges, and three at least
 pub record ClosedWalk (w : Walk) (tally : Tally) (ends : List ℕ) : Type 0 where
   pub for_end : tally.loops < length ends

@@ -1,13 +1,13 @@
 -- From welding to the walks, and from the walks to the answer. Assumes nothing.
 use mathlib.Core.Path.{◌≡◌, refl, ap, sym, ◌∙◌, subst}
 use mathlib.Core.List.{List, [], ◌∷◌, ◌++◌, append_assoc, flatten}
-use mathlib.Core.Bool.{Bool, false}
+use mathlib.Core.Bool.{false}
 use Prim.Native.Nat.{ℕ, zero, suc, ◌+◌, ◌*◌, ◌-◌, ◌≤◌, ◌<◌}
-use native.Mathlib.Nat.{not-suc-le-zero, le_of_suc-le-suc}
 use native.Mathlib.Omega.{arith}
 use lib.Ieee.{Float}
 use lib.ListN.{length, take, drop, replicate, take-append-drop}
 use lib.Seq.{length-take-le, take_at, take-append_seam, drop-append_seam}
+use Rattle.std.proofs.lemmas.List.{take-replicate}
 use Rattle.vector.specs.Rows.{Seg, rows, segs, over, ends_from}
 use Rattle.weld.specs.declared.Edge.{Edge}
 use Rattle.weld.specs.Weld.{welded_points}
@@ -23,12 +23,6 @@ use Rattle.stitch.specs.Claim.{Claim}
 use Rattle.stitch.specs.Code.{Spare, Wrote, Stitchable, AnswerGiven, cut, answer_in, Stitches}
 use Rattle.stitch.proofs.Claim.{claim}
 use Rattle.rows.proofs.Lists.{length_ends}
-
--- fresh marks, as many as there are edges
-fresh_part : (n k : ℕ) → k ≤ n → take k (replicate n false) ≡ replicate k false
-fresh_part n zero h = refl
-fresh_part zero (suc k) h = absurd (not-suc-le-zero h)
-fresh_part (suc n) (suc k) h = ap {B = List Bool} (λ r. false ∷ r) (fresh_part n k (le_of_suc-le-suc h))
 
 -- the points one after another are the numbers that they were read from
 flatten_rows : (n : ℕ) (xs : List Float) → 2 * n ≤ length xs → flatten (rows 2 n xs) ≡ take (2 * n) xs
@@ -74,7 +68,7 @@ claimed rule ss r numbers numbers' nodes nodes' ends ends' g =
 
 -- ---- of what welding left
 module _ (rule : Rule) {ss : List Float} {s : ℕ} {zs₀ : List Float} {n m : ℕ} {zs : List Float} {es : List Edge} {nodes ends : List ℕ}
-    (w : Welds rule.tol2 ss s zs₀ n m zs es) (lent : Stitchable s ss zs₀ nodes ends) (room : s ≤ length es) where
+    (w : Welds rule.tol2 ss s zs₀ n m zs es) (lent : Stitchable s zs₀ nodes ends) (room : s ≤ length es) where
   pub edge_count : length (take m es) ≡ m
   edge_count = length-take-le m es (omega (arith, w.few_edges))
 
@@ -94,7 +88,7 @@ module _ (rule : Rule) {ss : List Float} {s : ℕ} {zs₀ : List Float} {n m : �
 
   -- the marks of the edges are fresh
   pub fresh : (k : ℕ) → s ≤ k → take m (replicate k false) ≡ replicate (length (take m es)) false
-  fresh k h = fresh_part k m (omega (arith, w.few_edges)) ∙ ap (λ (j : ℕ). replicate j false) (sym edge_count)
+  fresh k h = take-replicate m k false (omega (arith, w.few_edges)) ∙ ap (λ (j : ℕ). replicate j false) (sym edge_count)
 
   module _ (kept : length zs ≡ length zs₀) where
     numbers : zs ≡ over (flatten (welded_points rule.tol2 (segs 2 s ss))) zs₀

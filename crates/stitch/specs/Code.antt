@@ -78,8 +78,7 @@ pub record Wrote (ps : List Vector) (rule : Rule) (m : ℕ) (ws : List Walk) (r 
 -- ---- the answer
 
 -- the buffers of s segments: at most 384, with room for 2s points, s nodes and s / 3 ends
-pub record Stitchable (s : ℕ) (segments numbers : List Float) (nodes ends : List ℕ) : Type 0 where
-  pub given : 4 * s ≤ length segments
+pub record Stitchable (s : ℕ) (numbers : List Float) (nodes ends : List ℕ) : Type 0 where
   pub few : s ≤ 384
   pub for_points : 4 * s ≤ length numbers
   pub for_nodes : s ≤ length nodes

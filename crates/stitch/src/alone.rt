@@ -27,7 +27,7 @@ pub fn stitch_alone(
     if !room(4 * s, s, s / 3, numbers.len(), nodes.len(), ends.len()) {
         return Err(Refusal::ShortBuffer);
     }
-    Ok(stitch_segments(segments, s, tol, numbers, nodes, ends))
+    Ok(stitch_segments(segments, tol, numbers, nodes, ends))
 }
 
 // Whether buffers of lengths a, b and c hold x numbers, y nodes and z ends.

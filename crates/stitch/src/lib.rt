@@ -3,9 +3,9 @@
 
 pub mod alone;
 
-ghost use Rattle.std.specs.Prelude.{◌≡◌, cond, false, true, reverse, ◌*◌, ◌+◌, ◌<◌, ◌≤◌, get_or, length, replicate};
+ghost use Rattle.std.specs.Prelude.{◌≡◌, cond, false, true, reverse, ◌*◌, ◌+◌, ◌/◌, ◌<◌, ◌≤◌, get_or, length, replicate};
 ghost use Rattle.std.proofs.Math.Seq.{paste};
-ghost use Rattle.vector.specs.Rows.{rows, segs};
+ghost use Rattle.vector.specs.Rows.{all_segs, rows};
 ghost use Rattle.walk.specs.Walk.{point_at, walks};
 ghost use Rattle.walk.specs.Code.{Below};
 ghost use Rattle.stitch.specs.Stitch.{cross2, in_walks, kind_by, plus_walk, rule_of, signed_area, turned};
@@ -69,42 +69,40 @@ pub struct Rule {
     pub tol2: f64,
 }
 
-// Stitches s plane segments of a single cell into closed loops.
+// Stitches the plane segments of a single cell, four numbers each, into closed loops.
 //
 // Writes the welded points, the nodes of the loops and where each loop ends among them. A loop whose area is negative
 // is reversed. Most cells give at most 16 segments, whose small tables take less time to clear.
 pub fn stitch_segments(
     segments: &[f64],
-    s: usize,
     tol: f64,
     numbers: &mut [f64],
     nodes: &mut [u32],
     ends: &mut [u32],
 ) -> Stitched
-    requires { Stitchable s segments.now numbers.old nodes.old ends.old }
-    ensures { Stitches (rule_of tol) (segs 2 s segments.now) result numbers.old
-        numbers.new nodes.old nodes.new ends.old ends.new }
+    requires { Stitchable (length segments.now / 4) numbers.old nodes.old ends.old }
+    ensures { Stitches (rule_of tol) (all_segs 2 segments.now) result
+        numbers.old numbers.new nodes.old nodes.new ends.old ends.new }
 {
     let rule = Rule { tol2: tol * tol };
-    if s <= 16 {
-        return stitch_within::<16, 32>(segments, s, rule, numbers, nodes, ends);
+    if segments.len() / 4 <= 16 {
+        return stitch_within::<16, 32>(segments, rule, numbers, nodes, ends);
     }
-    stitch_within::<384, 768>(segments, s, rule, numbers, nodes, ends)
+    stitch_within::<384, 768>(segments, rule, numbers, nodes, ends)
 }
 
 // Stitches by a rule, with tables for EDGES segments and their POINTS points, and marks for all 384 places.
 fn stitch_within<const EDGES: usize, const POINTS: usize>(
     segments: &[f64],
-    s: usize,
     rule: Rule,
     numbers: &mut [f64],
     nodes: &mut [u32],
     ends: &mut [u32],
 ) -> Stitched
-    requires { Stitchable s segments.now numbers.old nodes.old ends.old
-        × (s ≤ EDGES) × (EDGES < POINTS) × (2 * EDGES ≤ POINTS) × (POINTS ≤ 768) }
-    ensures { Stitches rule (segs 2 s segments.now) result numbers.old numbers.new
-        nodes.old nodes.new ends.old ends.new }
+    requires { Stitchable (length segments.now / 4) numbers.old nodes.old ends.old
+        × (length segments.now / 4 ≤ EDGES) × (EDGES < POINTS) × (2 * EDGES ≤ POINTS) × (POINTS ≤ 768) }
+    ensures { Stitches rule (all_segs 2 segments.now) result
+        numbers.old numbers.new nodes.old nodes.new ends.old ends.new }
 {
     let mut edges = [Edge {
         smaller: 0,
@@ -113,7 +111,7 @@ fn stitch_within<const EDGES: usize, const POINTS: usize>(
     let mut used = [false; 384];
     let mut walked = [0; POINTS];
     let mut past = [0; POINTS];
-    let w = weld::weld(segments, s, rule.tol2, numbers, &mut edges);
+    let w = weld::weld(segments, rule.tol2, numbers, &mut edges);
     walk::past_edges(&edges[..w.edges], &mut past);
     let graph = Graph {
         points: numbers,
@@ -137,7 +135,8 @@ struct Tally {
     counts: Counts,
 }
 
-// Walks from each unused edge in listed order, and writes the loops.
+// Walks from each unused edge in listed order, and writes the loops. The lent buffers stand one by one here and below: a struct of
+// them would have to promise in each function that they stay lent.
 fn stitch_edges(
     graph: &Graph,
     rule: Rule,
@@ -200,7 +199,7 @@ fn stitch_from(
 }
 
 // Ends a walk: its nodes are written if it is a loop, and its edges are counted. A closed walk has three
-// nodes at least (`three` of the claim), so that is not tested.
+// nodes at least (`three` of the claim), so that is not tested. `closed` stands beside the nodes as in `Walked`, and why.
 fn finish(
     graph: &Graph,
     walked: &[u32],

@@ -1,12 +1,12 @@
 // For tests only: proved functions of the crates below, which are no part of Cicelybeam's interface, made callable from Rust. Each
 // export tests the lengths and refuses what does not fit; a slice passes as a pointer and a length.
+// They cross as C's do: an answer is a number, a count or 1 or 0, and space and the plane, normal and direction have a name each.
 #![tactic(auto)]
 
-ghost use Rattle.std.specs.Prelude.{◌≡◌, [], ◌∷◌, ◌*◌, ◌/◌, ◌<◌, ◌≤◌, length};
+ghost use Rattle.std.specs.Prelude.{◌≡◌, [], ◌∷◌, ◌/◌, ◌<◌, ◌≤◌, length};
 ghost use Rattle.vector.specs.Rows.{put, row};
 ghost use Rattle.vector.specs.Vector.{line_of, normal_along, plane_of, unit};
 ghost use Rattle.vector.specs.Tolerance.{tolerance};
-ghost use Rattle.clip.specs.Cell.{at_most};
 ghost use Rattle.stitch.specs.Code.{Stitchable};
 ghost use Rattle.trial.specs.Trial.{ClipFits, Clips, FrameGiven, Refused, Stitching, Total, UnitGiven, Unstitched, deprojected, plane_in, projected, stitched_in};
 
@@ -31,15 +31,7 @@ pub extern "C" fn trial_space_segments(
         out.new)
         (Refused result out.old out.new) }
 {
-    let n = poly.len() / 3;
-    if n > 256 || placed.len() < 6 {
-        return REFUSED;
-    }
-    let most = 3 * n / 2;
-    if points.len() < 3 * most || out.len() < 6 * most {
-        return REFUSED;
-    }
-    segments::<3>(poly, n, placed, tol, points, out)
+    segments::<3, 256>(poly, placed, tol, points, out)
 }
 
 // The same in the plane.
@@ -56,36 +48,37 @@ pub extern "C" fn trial_plane_segments(
         out.new)
         (Refused result out.old out.new) }
 {
-    let n = poly.len() / 2;
-    if n > 384 || placed.len() < 4 {
-        return REFUSED;
-    }
-    let most = 3 * n / 2;
-    if points.len() < 2 * most || out.len() < 4 * most {
-        return REFUSED;
-    }
-    segments::<2>(poly, n, placed, tol, points, out)
+    segments::<2, 384>(poly, placed, tol, points, out)
 }
 
-// The segments of n corners, of D coordinates each.
-fn segments<const D: usize>(
+// The segments of at most LIMIT corners, of D coordinates each.
+fn segments<const D: usize, const LIMIT: usize>(
     poly: &[f64],
-    n: usize,
     placed: &[f64],
     tol: f64,
     points: &mut [f64],
     out: &mut [f64],
 ) -> usize
-    requires { (0 < D) × (D ≤ 3) × (D * n ≤ length poly.now) × (2 * D ≤ length placed.now)
-        × (D * at_most n ≤ length points.old) × (D * (2 * at_most n) ≤ length out.old) }
-    ensures { Clips D n poly.now placed.now tol out.old result out.new }
+    requires { (0 < D) × (D ≤ 3) × (LIMIT ≤ 384) }
+    ensures { Total (ClipFits D LIMIT poly.now placed.now points.old out.old)
+        (Clips D (length poly.now / D) poly.now placed.now tol out.old result
+        out.new)
+        (Refused result out.old out.new) }
 {
+    let n = poly.len() / D;
+    if n > LIMIT || placed.len() < 2 * D {
+        return REFUSED;
+    }
+    let most = 3 * n / 2;
+    if points.len() < D * most || out.len() < 2 * D * most {
+        return REFUSED;
+    }
     let cut = Cut {
         origin: coord::<D>(placed, 0),
         normal: coord::<D>(placed, 1),
         tol,
     };
-    plane_section_segments(poly, n, &cut, points, out).segments
+    plane_section_segments(poly, &cut, points, out).segments
 }
 
 // What stitching gives, and whether the lengths fitted.
@@ -128,8 +121,7 @@ pub extern "C" fn trial_stitch(
     nodes: &mut [u32],
     ends: &mut [u32],
 ) -> Answer
-    ensures { Total (Stitchable (length segments.now / 4) segments.now points.old
-        nodes.old ends.old)
+    ensures { Total (Stitchable (length segments.now / 4) points.old nodes.old ends.old)
         (Stitching segments.now tol result points.old points.new nodes.old
         nodes.new ends.old ends.new)
         (Unstitched result points.old points.new nodes.old nodes.new
@@ -139,7 +131,7 @@ pub extern "C" fn trial_stitch(
     if s > 384 || points.len() < 4 * s || nodes.len() < s || ends.len() < s / 3 {
         return Answer::default();
     }
-    stitch::stitch_segments(segments, s, tol, points, nodes, ends).into()
+    stitch::stitch_segments(segments, tol, points, nodes, ends).into()
 }
 
 // The tolerance of coordinates in space.

@@ -1,14 +1,15 @@
 -- Loops over coordinates: a sum so far, and a list that is filled from the front. Assumes nothing.
-use Rattle.std.proofs.Common.{◌≡◌, refl, sym, ap, ◌∙◌, ℕ, zero, suc, ◌+◌, ◌≤◌, ◌<◌, ◌*◌, List, [], ◌∷◌, ◌++◌, map, length, get_or, take, drop, set, arith}
+use Rattle.std.proofs.Common.{◌≡◌, refl, sym, ap, ◌∙◌, ℕ, zero, suc, ◌+◌, ◌≤◌, ◌<◌, List, [], ◌∷◌, ◌++◌, map, length, get_or, take, drop, set, arith}
 use native.Mathlib.Nat.{not-suc-le-zero, add-zero}
-use lib.ListN.{length-map, length-set}
+use lib.ListN.{length-set, replicate}
 use lib.Seq.{take-suc, take-suc-set}
-use Rattle.std.proofs.lemmas.List.{drop_more, get_or-drop, get_or-map, get_or-take, length-drop, length-take-le, take_all}
+use Rattle.std.proofs.lemmas.List.{drop_more, length-take-le, take_all}
 use native.Mathlib.Numerals.{add-one}
 use Rattle.std.proofs.lemmas.List.Edits.{sets}
 use lib.Ieee.{Float, nan, binary64, add, mul}
 use Rattle.vector.specs.Vector.{Vector, dot_from, each}
-use Rattle.vector.specs.Rows.{row}
+
+-- line_cut has it from here
 
 -- ---- the sum of products
 
@@ -51,7 +52,7 @@ each_at f (x ∷ a) [] k h i = absurd (omega arith)
 each_at f (x ∷ a) (y ∷ b) zero h i = refl
 each_at f (x ∷ a) (y ∷ b) (suc k) h i = each_at f a b k (omega arith) (omega arith)
 
--- ---- filled by an operation on each pair, and on each number
+-- ---- filled by an operation on each pair
 
 pub pairs_start : (f : Float → Float → Float) (a b : Vector) → length a ≡ length b → Filled (each f a b) a 0
 pairs_start f a b h = filled_start (each f a b) a (sym (length_each f a b h))
@@ -63,24 +64,19 @@ pairs_step f a b d k h i = filled_step (each f a b) d k (f (get_or a k nan) (get
 pub pairs_end : (f : Float → Float → Float) (a b d : Vector) (k : ℕ) → length a ≡ length b → length a ≤ k → Filled (each f a b) d k → d ≡ each f a b
 pairs_end f a b d k h i = filled_end (each f a b) d k (rw (length_each f a b h) i)
 
-pub map_start : (f : Float → Float) (a : Vector) → Filled (map f a) a 0
-map_start f a = filled_start (map f a) a (sym (length-map a f))
+-- ---- one number with each coordinate
 
-pub map_step : (f : Float → Float) (a d : Vector) (k : ℕ) → k < length a → Filled (map f a) d k
-    → Filled (map f a) (set d k (f (get_or a k nan))) (k + 1)
-map_step f a d k i =
-    filled_step (map f a) d k (f (get_or a k nan)) (rw (length-map a f) i) (sym (get_or-map f a k nan nan i))
+pub each_left : (f : Float → Float → Float) (n : ℕ) (t : Float) (a : Vector) → length a ≡ n → each f (replicate n t) a ≡ map (f t) a
+each_left f zero t [] h = refl
+each_left f zero t (x ∷ a) h = absurd (omega arith)
+each_left f (suc n) t [] h = absurd (omega arith)
+each_left f (suc n) t (x ∷ a) h = ap (λ l. f t x ∷ l) (each_left f n t a (omega arith))
 
-pub map_end : (f : Float → Float) (a d : Vector) (k : ℕ) → length a ≤ k → Filled (map f a) d k → d ≡ map f a
-map_end f a d k i = filled_end (map f a) d k (rw (length-map a f) i)
-
--- ---- filled with a row
-
-pub row_length : (w : ℕ) (xs : List Float) (i : ℕ) → w * i + w ≤ length xs → length (row w xs i) ≡ w
-row_length w xs i h = length-take-le w (drop (w * i) xs) (omega (arith, length-drop (w * i) xs))
-
-pub row_at : (w : ℕ) (xs : List Float) (i k : ℕ) → k < w → get_or (row w xs i) k nan ≡ get_or xs (w * i + k) nan
-row_at w xs i k h = get_or-take w (drop (w * i) xs) k nan h ∙ get_or-drop (w * i) xs k nan
+pub each_right : (f : Float → Float → Float) (n : ℕ) (t : Float) (a : Vector) → length a ≡ n → each f a (replicate n t) ≡ map (λ x. f x t) a
+each_right f zero t [] h = refl
+each_right f zero t (x ∷ a) h = absurd (omega arith)
+each_right f (suc n) t [] h = absurd (omega arith)
+each_right f (suc n) t (x ∷ a) h = ap (λ l. f x t ∷ l) (each_right f n t a (omega arith))
 
 -- ---- written from the front
 

@@ -6,12 +6,12 @@ use mathlib.Core.Bool.{Bool, true, false, not, cond, ◌&&◌, ◌||◌}
 use Prim.Native.Nat.{ℕ, zero, suc, ◌+◌, ◌*◌, ◌^◌, ◌%◌}
 use native.Mathlib.Nat.{zero-mul}
 use native.Mathlib.Omega.{arith}
-use borrow.Author.Tests.{lt-ltb, eq-eqb, ne_eqb}
+use borrow.Author.Tests.{lt-ltb, eq-eqb}
 use lib.Dec.{T, eqb, ltb}
 use lib.IntN.{ℤ, negsuc}
 use lib.Ieee.{Float, nan, inf, fin, Format, binary64, add, mul, lt, le, eq, is_nan, round, units, odd, sum, up, down, low, prec, emax}
 use lib.ListN.{length}
-use Rattle.rows.specs.Outcome.{refused, found}
+use Rattle.rows.specs.Outcome.{found}
 use Rattle.vector.specs.Number.{f0, abs}
 use Rattle.vector.specs.Tolerance.{column, extent, fine, greater, greatest_from, magnitude, small, Nonnegative, spread, tolerance, tolerance_of}
 
@@ -129,8 +129,5 @@ tolerance_sound w xs = plus_sound (tolerance w xs) (tolerance_plus w xs)
 
 -- ---- refusal 3, or the tolerance
 module _ (w : ℕ) (xs : List Float) where
-  pub not_rows : (length xs % w ≡ 0 → ⊥) → tolerance_of w xs ≡ refused 3
-  not_rows h = simp (ne_eqb _ _ h)
-
   pub rows_fit : length xs % w ≡ 0 → tolerance_of w xs ≡ found (tolerance w xs)
   rows_fit e = simp (eq-eqb _ _ e)

@@ -1,4 +1,5 @@
 pub mod Rows
+pub mod Slices
 pub mod Units
 pub mod Coordinates
 pub mod Passes

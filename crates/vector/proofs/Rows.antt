@@ -6,9 +6,11 @@ use Prim.Native.Nat.{ℕ, zero, suc, ◌+◌, ◌-◌, ◌*◌, ◌≤◌, ◌<�
 use native.Mathlib.Nat.{not-suc-le-zero, mul-le-mul_left, mul-le-mul_right, mul-suc, mul-zero, suc-add, zero-add, add_comm}
 use native.Mathlib.Numerals.{add-one}
 use native.Mathlib.Omega.{arith}
-use lib.Ieee.{Float, nan}
+use lib.Ieee.{Float}
 use lib.ListN.{length, get_or, take, drop, length-append}
-use lib.Seq.{drop-cons, drop-drop, take-take, take-nil, take_at, drop_at, length-take-le, sets-eq, length-sets}
+use lib.Seq.{drop-drop, take-take, take_at, drop_at, length-take-le, sets-eq, length-sets}
+use Rattle.std.proofs.lemmas.List.{drop-take}
+-- clip has it from here
 use Rattle.vector.specs.Vector.{Vector}
 use Rattle.vector.specs.Rows.{row, rows, put, Seg, seg, no_seg, pair_up, segs, put_seg}
 
@@ -39,17 +41,12 @@ rows_more w (suc a) b xs =
 rows_snoc : (w n : ℕ) (xs : List Float) → rows w (suc n) xs ≡ rows w n xs ++ row w xs n ∷ []
 rows_snoc w n xs = ap (λ (k : ℕ). rows w k xs) (sym (add-one n)) ∙ rows_more w n 1 xs
 
-drop_take : (w m : ℕ) (xs : List Float) → drop w (take (w + m) xs) ≡ take m (drop w xs)
-drop_take zero m xs = rw (zero-add m)
-drop_take (suc w) m [] = rw (take-nil (suc w + m), take-nil m)
-drop_take (suc w) m (x ∷ xs) = rw (suc-add w m) (drop_take w m xs)
-
-rows_cut : (w n : ℕ) (xs : List Float) → rows w n (take (w * n) xs) ≡ rows w n xs
+pub rows_cut : (w n : ℕ) (xs : List Float) → rows w n (take (w * n) xs) ≡ rows w n xs
 rows_cut w zero xs = refl
 rows_cut w (suc n) xs =
     let e : w * suc n ≡ w + w * n = mul-suc w n ∙ add_comm (w * n) w in
     let h : w ≤ w + w * n = omega arith in
-    rw (e, take-take w (w + w * n) xs h, drop_take w (w * n) xs, rows_cut w n (drop w xs))
+    rw (e, take-take w (w + w * n) xs h, drop-take w (w * n) xs, rows_cut w n (drop w xs))
 
 -- n rows depend on the first w * n numbers only
 rows_same : (w n : ℕ) (xs ys : List Float) → take (w * n) xs ≡ take (w * n) ys → rows w n xs ≡ rows w n ys
@@ -62,10 +59,6 @@ drop_later zs ys a b h e =
     rw q (sym (drop-drop (b - a) a zs) ∙ rw e (drop-drop (b - a) a ys))
 
 -- ---- room
-
--- row i is inside n rows
-pub row_fits : (w n : ℕ) {i l : ℕ} → i < n → w * n ≤ l → w * i + w ≤ l
-row_fits w n {i} {l} h room = let e = mul-le-mul_left w h in let f = mul-suc w i in omega arith
 
 -- rows have as many numbers at least
 pub rows_fit : (w n : ℕ) {l : ℕ} → 0 < w → w * n ≤ l → n ≤ l
@@ -176,17 +169,3 @@ module _ (w n : ℕ) (xs : List Float) (a b : Vector) (la : length a ≡ w) (lb 
       (rest_put w (suc (2 * n)) (put w xs (2 * n) a) b lb room_c
       ∙ drop_later (put w xs (2 * n) a) xs (w * suc (2 * n)) (w * suc (suc (2 * n))) (omega arith)
       (rest_put w (2 * n) xs a la room_a))
-
--- ---- rows that the code reads and writes number by number
-
-pub add_two : (n : ℕ) → n + 2 ≡ suc (suc n)
-add_two n = omega arith
-
--- the w numbers from b on
-abbrev pub row_from : ℕ → ℕ → List Float → Vector
-row_from zero b xs = []
-row_from (suc w) b xs = get_or xs b nan ∷ row_from w (suc b) xs
-
-pub row_read : (w b : ℕ) (xs : List Float) → b + w ≤ length xs → row_from w b xs ≡ take w (drop b xs)
-row_read zero b xs h = refl
-row_read (suc w) b xs h = rw (drop-cons xs b nan (omega arith)) (ap (λ (l : Vector). get_or xs b nan ∷ l) (row_read w (suc b) xs (omega arith)))

@@ -1,5 +1,5 @@
 -- Points and vectors as lists of floats, over the width: the unit vector, the cutting plane, projection. Definitions only.
-use Rattle.std.specs.Prelude.{List, [], ◌∷◌, map, cond, ◌&&◌, ℕ, get_or, Float, Option, Some, None}
+use Rattle.std.specs.Prelude.{◌≡◌, List, [], ◌∷◌, map, cond, ◌&&◌, ℕ, get_or, Float, Option, Some, None}
 use Rattle.std.specs.Float.{nan, binary64}
 use Rattle.std.specs.Float.Ieee.{add, sub, mul, div, neg, lt, le}
 use Rattle.root.specs.Root.{sqrt_of}
@@ -28,6 +28,10 @@ abbrev pub each : (Float → Float → Float) → Vector → Vector → Vector
 each f [] bs = []
 each f (a ∷ xs) [] = []
 each f (a ∷ xs) (b ∷ bs) = f a b ∷ each f xs bs
+
+-- of each pair of coordinates a result of R, whichever operation R stands for
+abbrev pub IsEach : (Float → Float → Float → Type 0) → Vector → Vector → Vector → Type 0
+IsEach R a b d = (f : Float → Float → Float) → ((x y r : Float) → R x y r → r ≡ f x y) → d ≡ each f a b
 
 -- a - b
 abbrev pub diff : Vector → Vector → Vector

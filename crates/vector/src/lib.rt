@@ -6,12 +6,13 @@ ghost use Rattle.std.specs.Float.{binary64};
 ghost use Rattle.std.specs.Float.Ieee.{div};
 ghost use Rattle.rows.specs.Refusals.{outcome_of};
 ghost use Rattle.vector.specs.Number.{abs};
-ghost use Rattle.vector.specs.Vector.{cross, deproject, diff, dist2, distance, dot, least_aligned_axis};
+ghost use Rattle.vector.specs.Vector.{IsEach, cross, deproject, diff, dist2, distance, dot, least_aligned_axis};
 ghost use Rattle.vector.specs.Vector.{line_of, normal_along, plane_basis, plane_of, plus, project, scale, unit};
 ghost use Rattle.vector.specs.Rows.{put, row};
 ghost use Rattle.vector.specs.Tolerance.{column, extent, greater, lesser, magnitude, spread, tolerance, tolerance_of};
 
 use rows::Refusal;
+use std::ops::{Add, Div, Mul, Sub};
 
 // A cutting plane: its origin, its unit normal and the two in-plane vectors.
 #[derive(Clone, Copy)]
@@ -97,11 +98,7 @@ pub fn unit<const D: usize>(v: [f64; D]) -> Option<[f64; D]>
 fn divided<const D: usize>(v: [f64; D], n: f64) -> [f64; D]
     ensures { result ≡ map (λ x. div binary64 x n) v.entry }
 {
-    let mut u = v;
-    for k in 0..D {
-        u[k] = v[k] / n;
-    }
-    u
+    each(Div::div, v, [n; D])
 }
 
 // The dot product, summed from plus zero.
@@ -134,33 +131,33 @@ pub fn distance<const D: usize>(p: [f64; D], origin: [f64; D], normal: [f64; D])
 pub fn minus<const D: usize>(a: [f64; D], b: [f64; D]) -> [f64; D]
     ensures { result ≡ diff a.entry b.entry }
 {
-    let mut d = a;
-    for k in 0..D {
-        d[k] = a[k] - b[k];
-    }
-    d
+    each(Sub::sub, a, b)
 }
 
 // a + b.
 pub fn plus<const D: usize>(a: [f64; D], b: [f64; D]) -> [f64; D]
     ensures { result ≡ plus a.entry b.entry }
 {
-    let mut s = a;
-    for k in 0..D {
-        s[k] = a[k] + b[k];
-    }
-    s
+    each(Add::add, a, b)
 }
 
 // t times a.
 pub fn scaled<const D: usize>(a: [f64; D], t: f64) -> [f64; D]
     ensures { result ≡ scale t a.entry }
 {
-    let mut s = a;
+    each(Mul::mul, [t; D], a)
+}
+
+// An operation at each pair of coordinates.
+fn each<const D: usize, F: Fn(f64, f64) -> f64>(f: F, a: [f64; D], b: [f64; D]) -> [f64; D]
+    requires { F.IsAlwaysCallable f }
+    ensures { IsEach (F.post f) a.entry b.entry result }
+{
+    let mut d = a;
     for k in 0..D {
-        s[k] = t * a[k];
+        d[k] = f(a[k], b[k]);
     }
-    s
+    d
 }
 
 // The cross product.
@@ -221,7 +218,8 @@ pub fn put<const D: usize>(xs: &mut [f64], i: usize, p: [f64; D])
     }
 }
 
-// The tolerance of a mesh by its coordinates, D a row.
+// The tolerance of a mesh by its coordinates, D a row. That D is not 0 is asked here and elsewhere, since a type cannot bound its const
+// parameter.
 pub fn tolerance<const D: usize>(xs: &[f64]) -> Result<f64, Refusal>
     requires { 0 < D }
     ensures { outcome_of result ≡ tolerance_of D xs.now }
@@ -282,7 +280,7 @@ fn magnitude(xs: &[f64]) -> f64
     m
 }
 
-// The lesser of a and b. A NaN b is passed over.
+// The lesser of a and b. A NaN b is passed over, and of zeros a stays. The library's `min` passes over a NaN a too.
 fn lesser(a: f64, b: f64) -> f64
     ensures { result ≡ lesser a b }
 {
@@ -292,7 +290,7 @@ fn lesser(a: f64, b: f64) -> f64
     a
 }
 
-// The greater of a and b. A NaN b is passed over.
+// The greater of a and b. A NaN b is passed over, and of zeros a stays. The library's `max` passes over a NaN a too.
 fn greater(a: f64, b: f64) -> f64
     ensures { result ≡ greater a b }
 {

@@ -8,7 +8,7 @@ use native.Mathlib.Omega.{arith}
 use lib.Ieee.{Float, lt}
 use lib.ListN.{length, get_or, drop, length-drop}
 use lib.Seq.{drop-cons, get_or-drop}
-use Rattle.std.specs.Prelude.{Option, None, Some, IfSome}
+use Rattle.std.specs.Prelude.{Option, None, Some}
 use Rattle.vector.specs.Vector.{Vector, diff, norm}
 use Rattle.weld.specs.declared.Edge.{Edge}
 use Rattle.walk.specs.declared.Arrival.{Arrival}
@@ -57,10 +57,6 @@ module _ (c : ℕ) (es : List Edge) (us : List Bool) (k j : ℕ) (left : Left c 
             (λ i g. ap (touches c) (get_or-drop j es i no_edge) ∙ none (j + i) (omega arith) (omega (arith, length-drop j es)));
       }
 
-pub found_in : (n k : ℕ) (r : Option ℕ) → IfSome r (λ j. (k ≤ j) × (j < n)) → IfSome r (λ j. j < n)
-found_in n k None i = tt
-found_in n k (Some j) i = i.1
-
 -- ---- the straightest
 
 pub straightest_step : (f : ℕ → Float) (b : Best) (k : ℕ) (v : Float) (l : List ℕ) → v ≡ f k
@@ -85,16 +81,8 @@ pub seek_step : (f : ℕ → Float) (c : ℕ) (es : List Edge) (us : List Bool) 
 seek_step f c es us k r b b' v ev eb g =
     straightest_step f b k v (available c (drop (k + 1) es) (drop (k + 1) us) (k + 1)) ev ∙ rw (eb, ← g.is)
 
--- two ways to work out cosines that agree
-straightest_same : (f g : ℕ → Float) → ((k : ℕ) → f k ≡ g k) → (k : ℕ) (v : Float) (l : List ℕ) → straightest f k v l ≡ straightest g k v l
-unfolding straightest
-straightest_same f g e k v [] = refl
-straightest_same f g e k v (j ∷ l) =
-    straightest_same f g e (cond (lt v (f j)) j k) (cond (lt v (f j)) (f j) v) l
-    ∙ ap (λ (w : Float). straightest g (cond (lt v w) j k) (cond (lt v w) w v) l) (e j)
-
 -- the cosine of an edge after an arrival is the junction's
-arrived_cosine : (ps : List Vector) (es : List Edge) (p c : ℕ) (a : Arrival) → Arrived ps p c a → (k : ℕ)
+pub arrived_cosine : (ps : List Vector) (es : List Edge) (p c : ℕ) (a : Arrival) → Arrived ps p c a → (k : ℕ)
     → cosine_for a ps es k ≡ cosine_at ps es p c k
 arrived_cosine ps es p c a g k =
     let d = diff (point_at ps c) (point_at ps p) in
@@ -114,17 +102,9 @@ module _ (ps : List Vector) (es : List Edge) (us : List Bool) (p c : ℕ) where
     unfolding next_edge choose
     next_one s = sym (ap (choose (cosine_at ps es p c)) (f.is ∙ ap {B = List ℕ} (λ l. first ∷ l) s.is))
 
-    pub next_many : (second : ℕ) (a : Arrival) (r : ℕ) → FirstFrom c es us (first + 1) (Some second) → Arrived ps p c a
-        → r ≡ straightest (cosine_for a ps es) first (cosine_for a ps es first) (ahead a.node es us (Some second))
+    pub next_many : (second r : ℕ) → FirstFrom c es us (first + 1) (Some second)
+        → r ≡ straightest (cosine_at ps es p c) first (cosine_at ps es p c first) (ahead c es us (Some second))
         → Some r ≡ next_edge ps es us p c
     unfolding next_edge choose
-    next_many second a r s g e =
-        let l = available c (drop (second + 1) es) (drop (second + 1) us) (second + 1) in
-        let f' = cosine_for a ps es in
-        let g' = cosine_at ps es p c in
-        ap (λ (k : ℕ). Some k)
-        (e
-        ∙ ap (λ (i : ℕ). straightest f' first (f' first) (ahead i es us (Some second))) g.node
-        ∙ straightest_same f' g' (arrived_cosine ps es p c a g) first (f' first) (second ∷ l)
-        ∙ ap (λ (v : Float). straightest g' first v (second ∷ l)) (arrived_cosine ps es p c a g first))
-        ∙ sym (ap (choose g') (f.is ∙ ap {B = List ℕ} (λ x. first ∷ x) s.is))
+    next_many second r s e =
+        ap (λ (k : ℕ). Some k) e ∙ sym (ap (choose (cosine_at ps es p c)) (f.is ∙ ap {B = List ℕ} (λ x. first ∷ x) s.is))

@@ -1,17 +1,19 @@
 -- What welding lists: edges between two of the points, smaller first, and none twice; and which. Assumes nothing.
 use mathlib.Core.Path.{◌≡◌, refl, ap, sym, ◌∙◌}
 use mathlib.Core.List.{List, [], ◌∷◌, ◌++◌}
-use mathlib.Core.Bool.{Bool, true, false, cond, ◌&&◌, ◌||◌, or_assoc, or-false, or-true}
+use mathlib.Core.Bool.{Bool, true, false, cond, ◌&&◌, ◌||◌, or-false, or-true}
 use Prim.Native.Nat.{ℕ, zero, suc, ◌+◌, ◌*◌, ◌≤◌, ◌<◌, min, max}
 use mathlib.Core.Logic.{◌⊎◌, inl, inr, ⊎_elim}
 use native.Mathlib.Nat.{not-suc-le-zero, eq-or-lt_of_le}
 use native.Mathlib.Omega.{arith}
 use lib.Dec.{eqb}
 use lib.Ieee.{Float}
-use lib.ListN.{length, get_or, length-append}
+use lib.ListN.{length, get_or, length-append, get_or-append}
 use borrow.Author.Tests.{eq-eqb, ne_eqb, eqb-true, eqb-false}
 use Rattle.std.specs.Prelude.{Option, None, Some, is_some, unwrap_or}
 use Rattle.std.specs.List.{list_any, position_from}
+use Rattle.std.proofs.lemmas.List.{get_or_push}
+use Rattle.std.proofs.lemmas.List.Folds.{list_any-append}
 use Rattle.vector.specs.Vector.{Vector}
 use Rattle.vector.specs.Rows.{Seg, seg}
 use Rattle.weld.specs.declared.Edge.{Edge}
@@ -47,8 +49,7 @@ listed_at (e ∷ es) (suc k) h = let i = listed_at es k (omega arith) in rw i (o
 
 pub listed_snoc : (e f : Edge) (es : List Edge) → listed e (es ++ f ∷ []) ≡ (listed e es || same e f)
 unfolding listed
-listed_snoc e f [] = or-false (same e f)
-listed_snoc e f (g ∷ es) = rw (listed_snoc e f es) (sym (or_assoc (same e g) (listed e es) (same e f)))
+listed_snoc e f es = list_any-append (λ g. same e g) es (f ∷ []) ∙ ap (λ b. listed e es || b) (or-false (same e f))
 
 -- the library's search compares the other way round
 pub any_listed : (e : Edge) (es : List Edge) → list_any (λ f. same f e) es ≡ listed e es
@@ -71,16 +72,6 @@ snoc_at P [] e f h (suc k) l = absurd (omega arith)
 snoc_at P (g ∷ es) e f h zero l = f 0 (omega arith)
 snoc_at P (g ∷ es) e f h (suc k) l = snoc_at P es e (λ j m. f (suc j) (omega arith)) h k (omega arith)
 
-snoc_old : (es : List Edge) (e : Edge) (k : ℕ) → k < length es → get_or (es ++ e ∷ []) k (edge 0 0) ≡ get_or es k (edge 0 0)
-snoc_old [] e k h = absurd (not-suc-le-zero h)
-snoc_old (f ∷ es) e zero h = refl
-snoc_old (f ∷ es) e (suc k) h = snoc_old es e k (omega arith)
-
-snoc_new : (es : List Edge) (e : Edge) (k : ℕ) → k ≡ length es → get_or (es ++ e ∷ []) k (edge 0 0) ≡ e
-snoc_new [] e k h = rw h
-snoc_new (f ∷ es) e zero h = absurd (omega arith)
-snoc_new (f ∷ es) e (suc k) h = snoc_new es e k (omega arith)
-
 distinct_snoc : (es : List Edge) (e : Edge) → Distinct es → ((k : ℕ) → k < length es → get_or es k (edge 0 0) ≡ e → ⊥)
     → Distinct (es ++ e ∷ [])
 distinct_snoc es e d n i j x y q = by_sides (last_or_old i x) (last_or_old j y)
@@ -91,9 +82,9 @@ distinct_snoc es e d n i j x y q = by_sides (last_or_old i x) (last_or_old j y)
         ⊎_elim (λ x. inr x) (λ x. inl x) (eq-or-lt_of_le m)
 
     by_sides : (i < length es) ⊎ (i ≡ length es) → (j < length es) ⊎ (j ≡ length es) → i ≡ j
-    by_sides (inl x) (inl y) = d i j x y (sym (snoc_old es e i x) ∙ q ∙ snoc_old es e j y)
-    by_sides (inl x) (inr y) = absurd (n i x (sym (snoc_old es e i x) ∙ q ∙ snoc_new es e j y))
-    by_sides (inr x) (inl y) = absurd (n j y (sym (snoc_old es e j y) ∙ sym q ∙ snoc_new es e i x))
+    by_sides (inl x) (inl y) = d i j x y (sym (get_or-append es (e ∷ []) (edge 0 0) i x) ∙ q ∙ get_or-append es (e ∷ []) (edge 0 0) j y)
+    by_sides (inl x) (inr y) = absurd (n i x (sym (get_or-append es (e ∷ []) (edge 0 0) i x) ∙ q ∙ get_or_push es e (edge 0 0) j (sym y)))
+    by_sides (inr x) (inl y) = absurd (n j y (sym (get_or-append es (e ∷ []) (edge 0 0) j y) ∙ sym q ∙ get_or_push es e (edge 0 0) i (sym x)))
     by_sides (inr x) (inr y) = omega arith
 
 -- ---- one more edge

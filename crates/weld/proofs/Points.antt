@@ -6,13 +6,14 @@ use Prim.Native.Nat.{ℕ, ◌+◌, ◌*◌, ◌≤◌, ◌<◌}
 use native.Mathlib.Numerals.{add-one}
 use native.Mathlib.Omega.{arith}
 use lib.Ieee.{Float, le}
-use lib.ListN.{length, get_or, drop, drop_of_length-le}
+use lib.ListN.{length, get_or, take, drop, drop_of_length-le}
 use lib.Seq.{drop-cons}
-use Rattle.std.specs.Prelude.{None, Some}
+use Rattle.std.specs.Prelude.{None, Option, Some}
 use Rattle.std.specs.List.{position_from}
 use Rattle.vector.specs.Vector.{Vector, dist2}
-use Rattle.vector.specs.Rows.{put, row, rows}
+use Rattle.vector.specs.Rows.{all_rows, put, row, rows}
 use Rattle.vector.proofs.Rows.{rest_put, rows_get_d, rows_length, rows_put}
+use Rattle.vector.proofs.Slices.{slice_rows}
 use Rattle.weld.specs.Weld.{near, find, push, place}
 use Rattle.weld.specs.Code.{Became}
 use Rattle.weld.proofs.Edges.{find_lt, pushes}
@@ -39,6 +40,11 @@ module _ (p : Vector) (tol2 : Float) (n : ℕ) (xs : List Float) (k : ℕ) where
 
     pub finding_end : n ≤ k → None ≡ find p tol2 (rows 2 n xs)
     finding_end h = sym (f ∙ rw (drop_of_length-le (rows 2 n xs) {i = k} (omega (arith, rows_length 2 n xs))))
+
+-- the search is lent the n points alone
+pub among_first : (p : Vector) (tol2 : Float) (n : ℕ) (zs : List Float) {o : Option ℕ} → 2 * n + 1 < length zs
+    → o ≡ find p tol2 (all_rows 2 (take (2 * n) zs)) → o ≡ find p tol2 (rows 2 n zs)
+among_first p tol2 n zs h e = e ∙ ap (find p tol2) (slice_rows 2 n zs (omega arith) (omega arith) refl)
 
 -- ---- what one point leaves
 pub found_below : (p : Vector) (tol2 : Float) (n k : ℕ) (zs : List Float) → Some k ≡ find p tol2 (rows 2 n zs) → k < n

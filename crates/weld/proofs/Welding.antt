@@ -1,8 +1,7 @@
 -- The welding loop: what is still to come at segment i, one segment more, the end, and what a caller reads off. Assumes nothing.
-use mathlib.Core.Path.{◌≡◌, refl, ap, sym, ◌∙◌}
+use mathlib.Core.Path.{◌≡◌, ap, sym, ◌∙◌}
 use mathlib.Core.List.{List, [], ◌∷◌}
 use Prim.Native.Nat.{ℕ, ◌+◌, ◌*◌, ◌≤◌, ◌<◌}
-use native.Mathlib.Nat.{not-suc-le-zero}
 use native.Mathlib.Numerals.{add-one}
 use native.Mathlib.Omega.{arith}
 use lib.Ieee.{Float}
@@ -65,19 +64,6 @@ pub record Welding (tol2 : Float) (ss : List Float) (s : ℕ) (zs₀ : List Floa
   pub few_edges : m ≤ i
   pub points_room : length zs ≡ length zs₀
   pub edges_room : length es ≡ room
-
-pub welding_start : {tol2 : Float} {ss : List Float} {s : ℕ} {zs : List Float} {es : List Edge} → Welding tol2 ss s zs (length es) 0 0 0 zs es
-welding_start =
-    record {
-      points = refl;
-      edges = refl;
-      rest = refl;
-      within = λ k h. absurd (not-suc-le-zero h);
-      few_points = omega arith;
-      few_edges = omega arith;
-      points_room = refl;
-      edges_room = refl;
-    }
 
 module _ {tol2 : Float} {ss : List Float} {s : ℕ} {zs₀ : List Float} {room i n m : ℕ} {zs : List Float} {es : List Edge}
     (w : Welding tol2 ss s zs₀ room i n m zs es) where

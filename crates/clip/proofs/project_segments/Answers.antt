@@ -4,14 +4,8 @@ use mathlib.Core.Path.{ap, ◌∙◌}
 use lib.ListN.{length}
 use native.Mathlib.Omega.{arith}
 use Rattle.vector.specs.Vector.{project}
-use Rattle.clip.specs.Cell.{project_seg}
-use Rattle.clip.proofs.Carrying.{by_ends, carrying_end, carrying_start, carrying_step}
+use Rattle.clip.proofs.Carrying.{by_ends, carrying_end, carrying_step}
 use Rattle.clip.proofs.project_segments.Goals as goal
-
-pub loop-i-init : goal.loop-i-init
-loop-i-init c =
-    let g = c.args in
-    carrying_start (project_seg g.plane) 3 2 g.k g.space.now g.from g.out.now
 
 pub loop-i-preserved : goal.loop-i-preserved
 loop-i-preserved c =

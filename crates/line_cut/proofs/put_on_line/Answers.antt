@@ -2,15 +2,10 @@
 use mathlib.Core.Path.{◌∙◌, ap}
 use lib.ListN.{length}
 use native.Mathlib.Omega.{arith}
-use Rattle.line_cut.specs.LineCut.{on_line, segment_on_line}
-use Rattle.clip.proofs.Carrying.{carrying_end, carrying_start, carrying_step, by_ends}
+use Rattle.line_cut.specs.LineCut.{on_line}
+use Rattle.clip.proofs.Carrying.{carrying_end, carrying_step, by_ends}
 use Rattle.line_cut.proofs.LoopsCut.{on_line_length}
 use Rattle.line_cut.proofs.put_on_line.Goals as goal
-
-pub loop-i-init : goal.loop-i-init
-loop-i-init c =
-    let g = c.args in
-    carrying_start (segment_on_line g.plane) 2 3 g.k g.flat.now g.from g.out.now
 
 pub loop-i-preserved : goal.loop-i-preserved
 loop-i-preserved c =
@@ -19,7 +14,7 @@ loop-i-preserved c =
     let first = c.put in
     let second = c.put-in-loop-i in
     carrying_step v c.loop-i-test.true
-    (omega (arith, c.requires.1))
+    (omega (arith, c.requires))
     (by_ends (on_line c.args.plane) c.coord.ensures c.on_line.ensures c.coord-in-loop-i.ensures c.on_line-in-loop-i.ensures) (ap length c.on_line.ensures ∙ on_line_length c.args.plane c.coord.result (omega arith) (omega arith))
     (ap length c.on_line-in-loop-i.ensures ∙ on_line_length c.args.plane c.coord-in-loop-i.result (omega arith) (omega arith))
     first.ensures second.ensures (second.auto.xs ∙ first.auto.xs ∙ v.same_length)

@@ -3,16 +3,15 @@
 use mathlib.Core.Path.{◌∙◌, ap, sym}
 use native.Mathlib.Omega.{arith}
 use Rattle.std.proofs.lemmas.Result.{err_from_is_err_and}
-use Rattle.rows.proofs.Outcomes.{test_failed, test_passed}
+use Rattle.rows.proofs.Outcomes.{test_failed}
 use Rattle.rows.specs.Refusals.{outcome_of}
 use Rattle.stitch.specs.Entry.{buffers, lengths}
-use Rattle.stitch.proofs.Entries.{gave_refusal, gave_section}
+use Rattle.stitch.proofs.Entries.{gave_refusal}
 use Rattle.cuts.specs.Cuts.{place_in}
 use Rattle.cuts.specs.Code.{through_of}
 use Rattle.cuts.specs.declared.Way.TheVariants.{Normal}
 use Rattle.cuts.proofs.Cutting.{at_work, cell_refused, corners_few, counted, is_accepted, place_refused}
-use Rattle.plane_cut.specs.PlaneCut.{plane_cut, section_in}
-use Rattle.plane_cut.proofs.Claims.{roomy}
+use Rattle.plane_cut.specs.PlaneCut.{section_in}
 use Rattle.plane_cut.proofs.section_cell_by_plane.Goals as goal
 
 pub returns-in_err-accepted : goal.returns-in_err-accepted
@@ -45,14 +44,3 @@ returns-then-not-room c =
     gave_refusal _ (at_work (is_accepted k.accepted k.ensures) (counted k.accepted k.ensures)
     (section_in g.tol (lengths (buffers g.numbers.now g.nodes.now g.ends.now)))
     (sym c.place.ensures ∙ ap outcome_of c.in_ok-plane.was) (test_failed 7 _ _ (sym c.room.ensures ∙ c.if-not-room.true)))
-
-pub section_cell-requires : goal.section_cell-requires
-section_cell-requires c = roomy _ _ _ (sym c.room.ensures ∙ c.if-not-room.false)
-
-pub returns : goal.returns
-returns c =
-    let g = c.args in
-    let k = c.in_ok-accepted in
-    let room = lengths (buffers g.numbers.now g.nodes.now g.ends.now) in
-    gave_section (ap (λ j. plane_cut j (through_of g.through.now) g.tol room) (sym k.ensures) ∙ at_work k.accepted.accepted k.accepted.count (section_in g.tol room)
-    (sym c.place.ensures ∙ ap outcome_of c.in_ok-plane.was) (test_passed 7 _ _ (sym c.room.ensures ∙ c.if-not-room.false))) c.section_cell.ensures.stitched

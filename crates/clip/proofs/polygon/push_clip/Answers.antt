@@ -5,14 +5,6 @@ use Rattle.vector.proofs.Rows.{rows_room}
 use Rattle.clip.proofs.Clipping.{push_none, push_one, push_two, pushed_at_most}
 use Rattle.clip.proofs.polygon.push_clip.Goals as goal
 
-pub push_unique-requires : goal.push_unique-requires
-push_unique-requires d c =
-    let h = rw c.in-One.is at c.requires in omega arith
-
-pub push_unique-k-requires : goal.push_unique-k-requires
-push_unique-k-requires d c =
-    let h = rw c.in-Two.is at c.requires in omega arith
-
 pub push_unique-requires-in-Two : goal.push_unique-requires-in-Two
 push_unique-requires-in-Two d c =
     let first = c.push_unique-k in

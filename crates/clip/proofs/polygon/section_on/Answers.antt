@@ -1,36 +1,50 @@
 -- `clip::polygon::section_on` meets its contract. Assumes nothing.
-use Prim.Native.Nat.{◌≤◌}
-use native.Mathlib.Nat.{mul-le-mul_left}
+use mathlib.Core.Path.{refl, sym}
 use native.Mathlib.Omega.{arith}
-use Rattle.vector.proofs.Rows.{rows_room}
-use Rattle.clip.specs.Cell.{at_most}
-use Rattle.clip.proofs.Clipping.{clipped_count}
-use Rattle.clip.proofs.Section.{few_points, many_points}
-use Rattle.clip.specs.View.{cut_of}
+use lib.Seq.{length-take-le}
+use Rattle.clip.proofs.Section.{clipped_room, few_points, left_fits, left_room, many_points}
+use Rattle.vector.proofs.Slices.{slice_count}
 use Rattle.clip.proofs.polygon.section_on.Goals as goal
 
-pub without_closing-m-requires : goal.without_closing-m-requires
-without_closing-m-requires d c =
-    let g = c.args in
-    omega (
-      arith,
-      c.clip_polygon-clipped.auto.points,
-      rows_room d.row.D (clipped_count (cut_of g.cut.now) g.sign g.n g.polygon.now c.clip_polygon-clipped.ensures.points) c.requires.3,
-    )
+pub overflow_mul-clipped : goal.overflow_mul-clipped
+overflow_mul-clipped d c =
+    let m = c.clip_polygon-clipped in
+    omega (arith, clipped_room c.args.polygon.now c.requires.0 c.requires.2 m.auto.points m.ensures)
 
-pub returns-then-m-lt2 : goal.returns-then-m-lt2
-returns-then-m-lt2 d c =
-    let g = c.args in
-    record { segments = few_points (cut_of g.cut.now) g.sign g.n g.polygon.now c.without_closing-m.result c.clip_polygon-clipped.ensures.points c.without_closing-m.ensures.0 c.if-m-lt2.true g.out.now }
+pub slice_bounds-without_closing-end : goal.slice_bounds-without_closing-end
+slice_bounds-without_closing-end d c =
+    let m = c.clip_polygon-clipped in
+    clipped_room c.args.polygon.now c.requires.0 c.requires.2 m.auto.points m.ensures
+
+pub slice_bounds-without_closing-end-2 : goal.slice_bounds-without_closing-end-2
+slice_bounds-without_closing-end-2 d c =
+    let m = c.clip_polygon-clipped in
+    sym (length-take-le _ _ (clipped_room c.args.polygon.now c.requires.0 c.requires.2 m.auto.points m.ensures))
+
+pub slice_bounds-segments-end-2 : goal.slice_bounds-segments-end-2
+slice_bounds-segments-end-2 d c =
+    let m = c.clip_polygon-clipped in
+    sym (length-take-le _ _ (left_room c.args.polygon.now c.requires.0 c.requires.2 m.auto.points m.ensures c.without_closing-left.ensures.1))
 
 pub segments-requires : goal.segments-requires
 segments-requires d c =
-    let g = c.args in
-    let few : c.without_closing-m.result ≤ at_most g.n
-    = omega (arith, clipped_count (cut_of g.cut.now) g.sign g.n g.polygon.now c.clip_polygon-clipped.ensures.points, c.without_closing-m.ensures.1) in
-    omega (arith, c.requires.0, c.if-m-lt2.false, c.clip_polygon-clipped.auto.points, rows_room d.row.D few c.requires.3, rows_room d.row.D (mul-le-mul_left 2 few) c.requires.4)
+    let m = c.clip_polygon-clipped in
+    let r = c.without_closing-left in
+    let few = r.ensures.1 in
+    let fits = left_fits c.args.polygon.now c.requires.0 c.requires.2 m.auto.points m.ensures few c.requires.3 in
+    let count = slice_count d.row.D r.result m.new.points c.requires.0 (left_room c.args.polygon.now c.requires.0 c.requires.2 m.auto.points m.ensures few) refl in
+    omega (arith, c.requires.0, c.if-left-lt2.false, count, fits)
+
+pub returns-then-left-lt2 : goal.returns-then-left-lt2
+returns-then-left-lt2 d c =
+    let m = c.clip_polygon-clipped in
+    let r = c.without_closing-left in
+    let kept = rw c.tol2.ensures at r.ensures.0 in
+    record { segments = few_points c.args.polygon.now c.requires.0 c.requires.2 m.auto.points m.ensures r.ensures.1 kept c.if-left-lt2.true c.args.out.now }
 
 pub returns : goal.returns
 returns d c =
-    let g = c.args in
-    record { segments = many_points (cut_of g.cut.now) g.sign g.n g.polygon.now c.without_closing-m.result c.clip_polygon-clipped.ensures.points c.without_closing-m.ensures.0 c.if-m-lt2.false c.segments.ensures }
+    let m = c.clip_polygon-clipped in
+    let r = c.without_closing-left in
+    let kept = rw c.tol2.ensures at r.ensures.0 in
+    record { segments = many_points c.args.polygon.now c.requires.0 c.requires.2 m.auto.points m.ensures r.ensures.1 kept c.if-left-lt2.false c.segments.ensures }

@@ -1,8 +1,0 @@
--- `axis` meets its contract. Assumes nothing.
-use mathlib.Core.Path.{refl}
-use lib.Ieee.{of_bits}
-use Rattle.line_cut.proofs.axis.Goals as goal
-
-pub returns : goal.returns
-unfolding of_bits
-returns c = refl

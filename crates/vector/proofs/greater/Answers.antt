@@ -1,9 +1,0 @@
--- `vector::greater` meets its contract. Assumes nothing.
-
-use Rattle.vector.proofs.greater.Goals as goal
-
-pub returns-then-a-b : goal.returns-then-a-b
-returns-then-a-b c = simp c.if-a-b.true
-
-pub returns : goal.returns
-returns c = simp c.if-a-b.false
