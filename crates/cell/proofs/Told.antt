@@ -35,7 +35,7 @@ use Rattle.cell.proofs.Polygon.{polygon_below}
 
 -- ---- the type with a number, as the code finds it
 
-unknown : {A : Type 0} {o : Option A} {e : Refusal} → Err e ≡ ok_or o CellType → (o ≡ None) × (e ≡ CellType)
+pub unknown : {A : Type 0} {o : Option A} {e : Refusal} → Err e ≡ ok_or o CellType → (o ≡ None) × (e ≡ CellType)
 unknown {o = None} h = (refl, cc)
 unknown {o = Some a} h = cc
 

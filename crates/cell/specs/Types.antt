@@ -67,6 +67,14 @@ shape_of Wedge6 = h.Wedge
 shape_of Wedge15 = h.Wedge
 shape_of Phed = h.Phed
 
+-- the shape of the type with a number; of a number that has none a polyhedron
+abbrev pub shape_in : Option SpaceType → Shape
+shape_in (Some k) = shape_of k
+shape_in None = h.Phed
+
+abbrev pub shape_numbered : ℕ → Shape
+shape_numbered t = shape_in (space_type t)
+
 -- ---- in the plane
 
 -- the type with a number, if it is one of these
@@ -99,3 +107,11 @@ plane_corners Quad4 n = 4
 plane_corners Quad8 n = 4
 plane_corners Quad9 n = 4
 plane_corners Pgon n = n
+
+-- the corner count of the type with a number; of a number that has none all n nodes
+abbrev pub corners_typed : Option PlaneType → ℕ → ℕ
+corners_typed (Some k) n = plane_corners k n
+corners_typed None n = n
+
+abbrev pub corners_numbered : ℕ → ℕ → ℕ
+corners_numbered t n = corners_typed (plane_type t) n

@@ -13,9 +13,9 @@ pub struct SpaceCell<'a> {
     pub cell: Cell<'a>,
     pub kind: SpaceType,
     pub corners: usize,
-    ghost accepted: { Accepted (space_cell (cell_of cell)) },
-    ghost known: { space_type cell.cell_type ≡ Some kind },
-    ghost count: { corners ≡ corners_of (space_cell (cell_of cell)) },
+    pub ghost accepted: { Accepted (space_cell (cell_of cell)) },
+    pub ghost known: { space_type cell.cell_type ≡ Some kind },
+    pub ghost count: { corners ≡ corners_of (space_cell (cell_of cell)) },
 }
 
 // In the plane.
@@ -24,7 +24,7 @@ pub struct PlaneCell<'a> {
     pub cell: Cell<'a>,
     pub kind: PlaneType,
     pub corners: usize,
-    ghost accepted: { Accepted (plane_cell (cell_of cell)) },
-    ghost known: { plane_type cell.cell_type ≡ Some kind },
-    ghost count: { corners ≡ corners_of (plane_cell (cell_of cell)) },
+    pub ghost accepted: { Accepted (plane_cell (cell_of cell)) },
+    pub ghost known: { plane_type cell.cell_type ≡ Some kind },
+    pub ghost count: { corners ≡ corners_of (plane_cell (cell_of cell)) },
 }

@@ -1,8 +1,8 @@
 // The types of cells: their numbers, node counts, corner counts and shapes.
 ghost use Rattle.std.specs.Prelude.{◌≡◌, ok_or};
 ghost use Rattle.rows.specs.declared.Refusal.TheVariants.{CellType};
-ghost use Rattle.cell.specs.Types.{allow, shape_of, space_nodes, space_type};
-ghost use Rattle.cell.specs.Types.{plane_corners, plane_nodes, plane_type};
+ghost use Rattle.cell.specs.Types.{allow, shape_numbered, shape_of, space_nodes, space_type};
+ghost use Rattle.cell.specs.Types.{corners_numbered, plane_corners, plane_nodes, plane_type};
 
 use rows::Refusal;
 
@@ -98,6 +98,16 @@ impl SpaceType {
         }
     }
 
+    // The shape of the type with a number; of a number that has none a polyhedron, whose faces any connectivity has.
+    pub fn shape_of(cell_type: u8) -> Shape
+        ensures { result ≡ shape_numbered cell_type }
+    {
+        match SpaceType::try_from(cell_type) {
+            Ok(kind) => kind.shape(),
+            Err(_) => Shape::Phed,
+        }
+    }
+
     // The shape whose faces it has.
     pub fn shape(self) -> Shape
         ensures { result ≡ shape_of self }
@@ -111,7 +121,8 @@ impl SpaceType {
     }
 }
 
-// The types of a cell in the plane. They share no case with those in space, so one enum for both would need two more to part them.
+// The types of a cell in the plane, with `try_from` and `nodes` of their own. They share no case with those in space, so one enum for both
+// would need two more to part them.
 #[derive(Clone, Copy)]
 pub enum PlaneType {
     Tri3,
@@ -172,6 +183,16 @@ impl PlaneType {
             PlaneType::Quad8 => Nodes::Exactly(8),
             PlaneType::Quad9 => Nodes::Exactly(9),
             PlaneType::Pgon => Nodes::AtMost(256),
+        }
+    }
+
+    // The corner count of the type with a number; of a number that has none all n nodes.
+    pub fn corners_of(cell_type: u8, n: usize) -> usize
+        ensures { result ≡ corners_numbered cell_type n }
+    {
+        match PlaneType::try_from(cell_type) {
+            Ok(kind) => kind.corners(n),
+            Err(_) => n,
         }
     }
 

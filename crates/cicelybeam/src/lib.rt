@@ -7,7 +7,7 @@ ghost use Rattle.std.specs.Float.{binary64};
 ghost use Rattle.root.specs.Root.{sqrt_of};
 ghost use Rattle.rows.specs.Refusals.{outcome_of};
 ghost use Rattle.vector.specs.Tolerance.{told_tolerance, tolerance_of};
-ghost use Rattle.cell.specs.Read.{cell, cell_of};
+ghost use Rattle.cell.specs.Read.{cell};
 ghost use Rattle.stitch.specs.Entry.{Gave, Small, buffers, lengths, section_told, stitch_alone};
 ghost use Rattle.cuts.specs.Cuts.{through};
 ghost use Rattle.cuts.specs.Lines.{GaveLine, line_told};
@@ -173,7 +173,11 @@ pub fn cicelybeam_plane_cell_by_normal(
         conn,
         coords,
     };
-    line_in_plane(Way::Normal, &cell, origin, normal, tol, numbers)
+    let through = Through {
+        origin,
+        vector: normal,
+    };
+    told_line(plane_cell::slice_2d(Way::Normal, &cell, &through, tol, numbers))
 }
 
 // A plane cell cut by a line that its direction gives.
@@ -196,24 +200,11 @@ pub fn cicelybeam_plane_cell_by_direction(
         conn,
         coords,
     };
-    line_in_plane(Way::Direction, &cell, origin, direction, tol, numbers)
-}
-
-// What a plane cell cut by a line tells.
-fn line_in_plane(
-    way: Way,
-    cell: &Cell,
-    origin: &[f64],
-    vector: &[f64],
-    tol: f64,
-    numbers: &mut [f64],
-) -> Line
-    ensures { GaveLine
-        (plane_cell_cut way (cell_of cell.now) (through origin.now vector.now) tol (length numbers.old))
-        (told_line_in result) numbers.old numbers.new }
-{
-    let through = Through { origin, vector };
-    told_line(plane_cell::slice_2d(way, cell, &through, tol, numbers))
+    let through = Through {
+        origin,
+        vector: direction,
+    };
+    told_line(plane_cell::slice_2d(Way::Direction, &cell, &through, tol, numbers))
 }
 
 // Stitching alone.

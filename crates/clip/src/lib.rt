@@ -73,7 +73,8 @@ pub fn cell_segments(
     Found { segments: k }
 }
 
-// Projects segments into the plane, after the `from` in out, where they grow in place. Gives how many there are then.
+// Projects segments into the plane, after the `from` in out, where they grow in place. Gives how many there are then. `put_on_line` of
+// line_cut is this loop at other widths with another map: a function for both takes a closure and a clause about it, and is longer.
 fn project_segments(space: &[f64], plane: Plane, out: &mut [f64], from: usize) -> usize
     requires { 4 * (from + length space.now / 6) ≤ length out.old }
     ensures { Segments 2 out.old (segs 2 from out.old ++ map (project_seg plane) (all_segs 3 space.now))
@@ -89,7 +90,7 @@ fn project_segments(space: &[f64], plane: Plane, out: &mut [f64], from: usize) -
 }
 
 // Where an edge meets the cut, from 0 at its first end to 1, by the signed distances of its ends.
-fn ratio(da: f64, db: f64) -> f64
+pub fn ratio(da: f64, db: f64) -> f64
     ensures { result ≡ ratio da db }
 {
     let denom = da - db;
@@ -102,7 +103,7 @@ fn ratio(da: f64, db: f64) -> f64
 // The side of the cut that a polygon is clipped to, by the sign that makes its distances positive, if so many of n corners are above
 // tol and below -tol: 1 above, -1 below. None, if none is; or if all are on one side and tol is not negative, since the face is then
 // clear of the cut.
-fn side_of(above: usize, below: usize, n: usize, tol: f64) -> Option<f64>
+pub fn side_of(above: usize, below: usize, n: usize, tol: f64) -> Option<f64>
     ensures { result ≡ side_of above below n tol }
 {
     if tol >= 0.0 && (above == n || below == n) {
@@ -117,14 +118,14 @@ fn side_of(above: usize, below: usize, n: usize, tol: f64) -> Option<f64>
 }
 
 // The signed distance at a place of xs, or after its end that of the first corner.
-fn signed_at(xs: &[f64], at: usize, sign: f64, first: f64) -> f64
+pub fn signed_at(xs: &[f64], at: usize, sign: f64, first: f64) -> f64
     ensures { result ≡ cond (ltb at (length xs.now)) (mul binary64 sign (get_or xs.now at nan)) first }
 {
     if at < xs.len() { sign * xs[at] } else { first }
 }
 
 // The place after i in a ring of n.
-fn next_of(i: usize, n: usize) -> usize
+pub fn next_of(i: usize, n: usize) -> usize
     requires { i < n }
     ensures { result ≡ next_of i n }
 {

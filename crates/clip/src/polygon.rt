@@ -52,8 +52,8 @@ pub struct Clipping<const D: usize> {
 // The polygon is clipped to one side of the cut, and the boundary edges that lie on the cut are kept. This
 // handles concave polygons too, and yields one segment per crossing interval. What the scratch `points` holds
 // afterwards is not said. The polygon is a slice of numbers, as the C interface lends it, and no slice of points, since `points` also
-// holds the distances. The polygon and the cut stand one by one, as in slice.rs. The clauses on room stay: they relate slices that are
-// lent apart, and no value holds both.
+// holds the distances. The polygon and the cut stand one by one: a struct of both would be taken apart in each of four functions. The
+// clauses on room stay: they relate slices that are lent apart, and no value holds both.
 pub fn plane_section_segments<const D: usize>(
     polygon: &[f64],
     cut: &Cut<D>,
@@ -148,7 +148,8 @@ fn clip_polygon<const D: usize>(
     Clipped { points: m }
 }
 
-// What the edge from a to b gives, by the signed distances da and db. Ends and distances stand one by one, as in slice.rs.
+// What the edge from a to b gives, by the signed distances da and db. Ends and distances stand one by one, here and below: a
+// struct of both would be made for each corner and taken apart in two functions.
 fn clip_edge<const D: usize>(
     a: [f64; D],
     da: f64,

@@ -43,39 +43,47 @@ module _ (k : Cell) (a : Accepted (space_cell k)) {r : Kept} {coords coords' : L
       subst (λ i. Fit 0 (take r.faces ends') i p q) (sym corners)
       (subst (λ l. Fit 0 l (length (flatten ps)) p q) (sym e) (copied_fit n p q ps ends w.each x y))
 
-  -- what clipping needs, in scratch that fits
+  -- what clipping needs, by sizes
+  pub clips : {m f n : ℕ} (p q : ℕ) (out : List Float) → CellWithin m f n k → 3 * m ≤ length coords → length coords' ≡ length coords
+      → 3 * at_most n ≤ p → 6 * at_most n ≤ q → 6 * corners_of (space_cell k) ≤ length out
+      → Fit 0 (take r.faces ends') r.corners p q × (3 * r.corners ≤ length coords') × (4 * at_most r.corners ≤ length out)
+  clips {n = n} p q out w x l y z room = (fit n p q w y z, omega (arith, corners, w.corners), omega (arith, corners))
+
+  -- and in scratch that fits, of a slice that holds just the corners
   pub fitted : {x f p q : ℕ} (out : List Float) → CellFits x f p q k → x ≡ length coords → length coords' ≡ length coords
       → 6 * corners_of (space_cell k) ≤ length out
       → Fit 0 (take r.faces ends') (length (take (3 * r.corners) coords') / 3) p q
       × (4 * at_most (length (take (3 * r.corners) coords') / 3) ≤ length out)
   fitted {p = p} {q = q} out v e l room =
-      let w = v.within in
       let u = v.corners in
-      let there : 3 * r.corners ≤ length coords' = omega (arith, corners, w.corners) in
-      let count = slice_count 3 r.corners coords' (omega arith) there refl in
-      rw count (fit v.most_of_face p q w v.points v.segments, omega (arith, corners))
+      let c = clips p q out v.within (omega arith) l v.points v.segments room in
+      rw (slice_count 3 r.corners coords' (omega arith) c.1 refl) (c.0, c.2)
 
 -- ---- stitching
 
 -- s segments of a cell with m face corners
-module _ (k : Cell) {m : ℕ} {segments out : List Float} {s : ℕ} (f : Plane) (tol : Float) (a : Accepted (space_cell k))
-    (e : m ≡ corners_of (space_cell k)) (g : Segments 2 segments (segments_on f tol (polygons_of (space_cell k))) s out) where
-  pub few : (4 * s ≤ 6 * m) × (m ≤ 256)
-  few =
-      let ps = polygons_of (space_cell k) in
-      let n : s ≡ length (segments_on f tol ps) = segments_count g in
-      let b = cell_bound (cut_by f tol) f ps in
-      let c = corners_in_all ps in
-      (omega arith, omega (arith, (any_within k a).corners))
+pub few : (k : Cell) {m : ℕ} {segments out : List Float} {s : ℕ} (f : Plane) (tol : Float) → Accepted (space_cell k)
+    → m ≡ corners_of (space_cell k) → Segments 2 segments (segments_on f tol (polygons_of (space_cell k))) s out
+    → (4 * s ≤ 6 * m) × (m ≤ 256)
+few k {s = s} f tol a e g =
+    let ps = polygons_of (space_cell k) in
+    let n : s ≡ length (segments_on f tol ps) = segments_count g in
+    let b = cell_bound (cut_by f tol) f ps in
+    let c = corners_in_all ps in
+    (omega arith, omega (arith, (any_within k a).corners))
 
-  pub lent : {numbers : List Float} {nodes ends : List ℕ} → 4 * s ≤ length out → Roomy m numbers nodes ends
-      → Stitchable (length (take (4 * s) out) / 4) numbers nodes ends
-  lent h r =
-      let c = few.0 in
-      rw (slice_count 4 s out (omega arith) h refl)
-      (record {
-        few = omega (arith, few.1);
-        for_points = omega (arith, r.for_numbers);
-        for_nodes = omega (arith, r.for_nodes);
-        for_ends = omega (arith, r.for_ends);
-      })
+-- they are there, and the buffers have room for what stitching them gives
+pub lent : (k : Cell) {m : ℕ} {numbers : List Float} {nodes ends : List ℕ} {segments out : List Float} {s : ℕ} (l : Plane) (tol : Float)
+    → Accepted (space_cell k) → m ≡ corners_of (space_cell k) → Roomy m numbers nodes ends → 6 * m ≤ length segments
+    → Segments 2 segments (segments_on l tol (polygons_of (space_cell k))) s out → length out ≡ length segments
+    → (4 * s ≤ length out) × Stitchable s numbers nodes ends
+lent k f tol a e r v g l =
+    let c = few k f tol a e g in (
+      omega (arith, c.0),
+      record {
+        few = omega (arith, c.0, c.1);
+        for_points = omega (arith, c.0, r.for_numbers);
+        for_nodes = omega (arith, c.0, r.for_nodes);
+        for_ends = omega (arith, c.0, r.for_ends);
+      },
+    )

@@ -62,7 +62,7 @@ fn plane_by(way: Way, origin: [f64; 3], vector: [f64; 3]) -> Option<Plane>
     }
 }
 
-// How large the scratch is that a cell takes. It comes in three sizes, so that small cells do not pay for large ones.
+// How large the scratch is that a cell takes. It comes in three sizes, so that small cells do not take the time to clear large ones.
 #[derive(Clone, Copy)]
 pub enum Size {
     Fixed,
@@ -129,7 +129,7 @@ fn gather_within<const CORNERS: usize, const FACES: usize, const POINTS: usize, 
     )
 }
 
-// The section of an accepted cell by a plane: its segments, stitched.
+// The section of an accepted cell by a plane: its segments, stitched. The lent buffers stand one by one, as in stitch, and why.
 pub fn section_cell(
     cell: &SpaceCell,
     cutting: &CuttingPlane,
@@ -151,7 +151,7 @@ pub fn section_cell(
 
 // The same with scratch for so many numbers of segments. Not inlined, for the same reason.
 #[inline(never)]
-fn section_within<const SEGMENTS: usize>(
+pub fn section_within<const SEGMENTS: usize>(
     cell: &SpaceCell,
     cutting: &CuttingPlane,
     numbers: &mut [f64],

@@ -39,13 +39,17 @@ loop_bound tol ps l = omega (arith, section_bound (axis tol) (map (point_at ps) 
 
 -- the segments of the polygon of a loop's points are the loop's
 module _ (tol : Float) (ps : List Vector) (nodes : List ℕ) where
-  pub loop_segments_lem : {c : Cut} {xs zs flat flat' : List Float} {k : ℕ} → c ≡ axis tol → 2 * length nodes ≤ length zs
+  pub loop_segments_lem : {c : Cut} {xs zs flat flat' : List Float} {k : ℕ} → c ≡ axis tol → Points 2 xs (map (point_at ps) nodes) (length nodes)
+      zs
+      → Segments 2 flat (plane_section_segments c (rows 2 (length nodes) zs)) k flat' → Segments 2 flat (loop_segments tol ps nodes) k flat'
+  loop_segments_lem e p h = record { are = h.are ∙ rw (p.are, e); rest = h.rest }
+
+  -- and those of the slice that holds just these points
+  pub loop_segments_lent : {c : Cut} {xs zs flat flat' : List Float} {k : ℕ} → c ≡ axis tol → 2 * length nodes ≤ length zs
       → Points 2 xs (map (point_at ps) nodes) (length nodes) zs
       → Segments 2 flat (plane_section_segments c (all_rows 2 (take (2 * length nodes) zs))) k flat'
       → Segments 2 flat (loop_segments tol ps nodes) k flat'
-  loop_segments_lem {c} {zs = zs} e room p h =
-      let lent : all_rows 2 (take (2 * length nodes) zs) ≡ rows 2 (length nodes) zs = slice_rows 2 (length nodes) zs (omega arith) room refl in
-      record { are = h.are ∙ rw (lent, p.are, e); rest = h.rest }
+  loop_segments_lent {zs = zs} e room p h = loop_segments_lem e p (rw (slice_rows 2 (length nodes) zs (omega arith) room refl) at h)
 
   pub loop_few : {flat flat' : List Float} {k : ℕ} → Segments 2 flat (loop_segments tol ps nodes) k flat' → k ≤ at_most (length nodes)
   loop_few h = omega (arith, segments_count h, loop_bound tol ps nodes)

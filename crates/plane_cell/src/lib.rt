@@ -51,7 +51,7 @@ fn place(way: Way, through: &Through, tol: f64) -> Result<Cut<2>, Refusal>
     })
 }
 
-// The unit normal of a line by its normal or its direction.
+// The unit normal of a line by its normal or its direction. By `Way`, as a plane is, and for the same reason (crates/cuts).
 fn normal_by(way: Way, vector: [f64; 2]) -> Option<[f64; 2]>
     ensures { result ≡ normal_by way vector }
 {

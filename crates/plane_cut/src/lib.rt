@@ -14,7 +14,7 @@ use stitch::Stitched;
 use stitch::alone::room;
 
 // Cuts a single cell in space with a plane: the section's points in the plane's own coordinates, the nodes of its
-// loops, and where each loop ends among them.
+// loops, and where each loop ends among them. The lent buffers stand one by one, as in stitch.
 pub fn section_cell_by_plane(
     cell: &Cell,
     through: &Through,

@@ -6,7 +6,7 @@ use crate::{Stitched, stitch_segments};
 use rows::Refusal;
 
 // Stitches segments of four numbers each, at most 384: their points, the nodes of the loops, and where each loop ends
-// among them.
+// among them. The lent buffers stand one by one, as C lends them.
 pub fn stitch_alone(
     segments: &[f64],
     tol: f64,

@@ -72,7 +72,8 @@ pub struct Rule {
 // Stitches the plane segments of a single cell, four numbers each, into closed loops.
 //
 // Writes the welded points, the nodes of the loops and where each loop ends among them. A loop whose area is negative
-// is reversed. Most cells give at most 16 segments, whose small tables take less time to clear.
+// is reversed. Most cells give at most 16 segments, whose small tables take less time to clear. The lent buffers stand one by one here and
+// below: a struct of them would have to promise in each function that they stay lent.
 pub fn stitch_segments(
     segments: &[f64],
     tol: f64,
@@ -135,8 +136,7 @@ struct Tally {
     counts: Counts,
 }
 
-// Walks from each unused edge in listed order, and writes the loops. The lent buffers stand one by one here and below: a struct of
-// them would have to promise in each function that they stay lent.
+// Walks from each unused edge in listed order, and writes the loops. The graph and the rule stand one by one, since the graph is walk's.
 fn stitch_edges(
     graph: &Graph,
     rule: Rule,

@@ -51,7 +51,7 @@ pub extern "C" fn trial_plane_segments(
     segments::<2, 384>(poly, placed, tol, points, out)
 }
 
-// The segments of at most LIMIT corners, of D coordinates each.
+// The segments of at most LIMIT corners, of D coordinates each. What both exports are given stands one by one here too.
 fn segments<const D: usize, const LIMIT: usize>(
     poly: &[f64],
     placed: &[f64],

@@ -10,13 +10,14 @@ ghost use Rattle.walk.specs.Code.{ahead, better, cosine_for};
 
 use weld::Edge;
 
-// n points, the edges between them, and for each point a number from which on no edge ends there.
+// n points, the edges between them, and for each point a number from which on no edge ends there. A walk marks the edges that it uses in
+// a slice of its own, since the graph is only read. The points are the caller's numbers, so nothing stands in them beside the coordinates.
 #[derive(Clone, Copy)]
 pub struct Graph<'a> {
     pub points: &'a [f64],
     pub n: usize,
     pub edges: &'a [Edge],
-    pub past: &'a [u16],
+    pub past: &'a [u32],
     pub ghost room: { 2 * n ≤ length points.now },
     pub ghost within: { Within edges.now n },
     pub ghost past_room: { n ≤ length past.now },
@@ -81,8 +82,7 @@ impl Graph<'_> {
         }
     }
 
-    // The first unused edge at current, from edge k on. A loop and no iterator chain, and not inlined: measured, it is faster so.
-    // No method of Step: with one, 384 segments took 189 microseconds, and so 182.
+    // The first unused edge at current, from edge k on. Not inlined, and no method of Step: with one, 384 segments took 4 % longer.
     #[inline(never)]
     fn first_available(&self, used: &[bool], current: u32, k: usize) -> Option<usize>
         requires { (length used.now ≡ length self.now.edges.now) × (current < self.now.n) }
@@ -230,13 +230,13 @@ impl Best {
 }
 
 // For each of the points the number after its last edge.
-pub fn past_edges(edges: &[Edge], past: &mut [u16])
+pub fn past_edges(edges: &[Edge], past: &mut [u32])
     requires { (length edges.now ≤ 384) × Within edges.now (length past.old)
         × (past.old ≡ replicate (length past.old) 0) }
     ensures { NoneFrom edges.now past.new }
 {
     for (k, edge) in edges.iter().enumerate() {
-        let after = k as u16 + 1;
+        let after = k as u32 + 1;
         past[edge.smaller as usize] = after;
         past[edge.larger as usize] = after;
     }

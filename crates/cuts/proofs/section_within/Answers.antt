@@ -1,9 +1,10 @@
 -- `cuts::section_within` meets its contract. Assumes nothing.
+use mathlib.Core.Path.{refl}
 use Prim.Native.Nat.{◌*◌}
 use Rattle.std.proofs.lemmas.List.{length-replicate}
 use native.Mathlib.Omega.{arith}
 use Rattle.cell.specs.Read.{cell_of}
-use Rattle.vector.proofs.Slices.{slice_segs}
+use Rattle.vector.proofs.Slices.{slice_count, slice_segs}
 use Rattle.cuts.proofs.Copying.{few, lent}
 use Rattle.cuts.proofs.section_within.Goals as goal
 
@@ -24,8 +25,9 @@ pub stitch_segments-requires : goal.stitch_segments-requires
 stitch_segments-requires d c =
     let k = c.args.cell.now in
     let f = c.args.cutting.now in
-    let l = few (cell_of k.cell) f.plane f.tol k.accepted k.count c.gather_cell-found.ensures.segments in
-    lent (cell_of k.cell) f.plane f.tol k.accepted k.count c.gather_cell-found.ensures.segments (omega (arith, l.0, c.requires.2, (rw length-replicate at c.gather_cell-found.auto.out))) c.requires.0
+    let g = c.gather_cell-found in
+    let l = lent (cell_of k.cell) f.plane f.tol k.accepted k.count c.requires.0 (omega (arith, c.requires.2, (rw length-replicate at g.auto.out))) g.ensures.segments g.auto.out in
+    rw (slice_count 4 g.result.segments g.new.out (omega arith) l.0 refl) l.1
 
 pub returns : goal.returns
 returns d c =

@@ -9,7 +9,7 @@ use Rattle.clip.specs.Code.{Segments}
 use Rattle.clip.proofs.Written.{segments_same}
 use Rattle.vector.proofs.Slices.{slice_count, slice_segs}
 use Rattle.line_cut.specs.LineCut.{loop_segments, segment_on_line}
-use Rattle.line_cut.proofs.LoopsCut.{loop_few, loop_segments_lem}
+use Rattle.line_cut.proofs.LoopsCut.{loop_few, loop_segments_lent}
 use Rattle.line_cut.proofs.cut_loop.Given.{Over}
 use Rattle.line_cut.proofs.cut_loop.Goals as goal
 use Rattle.line_cut.proofs.cut_loop.Goals.{After-plane_section_segments-found}
@@ -22,7 +22,7 @@ flat_segments d c =
     let g = c.args in
     let lengths = c.well_formed in
     let room : 2 * length g.nodes.now ≤ length c.loop_points.new.out = omega (arith, c.requires.0.for_polygon, c.loop_points.auto.out) in
-    loop_segments_lem g.cutting.now.tol (all_rows 2 g.points.now) g.nodes.now c.axis-cut.ensures room c.loop_points.ensures
+    loop_segments_lent g.cutting.now.tol (all_rows 2 g.points.now) g.nodes.now c.axis-cut.ensures room c.loop_points.ensures
     c.plane_section_segments-found.ensures.segments
 
 flat_room : (d : Over) (c : After-plane_section_segments-found d) → let found = c.plane_section_segments-found in

@@ -1,0 +1,16 @@
+-- `cicelybeam_plane_cell_by_normal` meets its contract. Assumes nothing.
+use native.Mathlib.Omega.{arith}
+use lib.ListN.{length}
+use Rattle.cell.specs.Read.{cell}
+use Rattle.cuts.specs.Cuts.{through}
+use Rattle.cuts.specs.declared.Way.TheVariants.{Normal}
+use Rattle.plane_cell.proofs.Claims.{plane_cell_sound}
+use Rattle.cicelybeam.proofs.Exports.{line_small}
+use Rattle.cicelybeam.proofs.cicelybeam_plane_cell_by_normal.Goals as goal
+
+pub told_line-requires : goal.told_line-requires
+told_line-requires c =
+    let g = c.args in
+    line_small c.slice_2d.ensures 384
+    (plane_cell_sound Normal (cell g.cell_type g.conn.now g.coords.now) (through g.origin.now g.normal.now) g.tol (length g.numbers.now))
+    (omega arith)
