@@ -8,7 +8,8 @@ use lib.Ieee.{Float}
 use lib.ListN.{length, take, drop, replicate, take-append-drop}
 use lib.Seq.{length-take-le, take_at, take-append_seam, drop-append_seam}
 use Rattle.std.proofs.lemmas.List.{take-replicate}
-use Rattle.vector.specs.Rows.{Seg, rows, segs, over, ends_from}
+use Rattle.vector.specs.Rows.{Seg, all_rows, rows, segs, over, ends_from}
+use Rattle.vector.proofs.Slices.{slice_rows}
 use Rattle.weld.specs.declared.Edge.{Edge}
 use Rattle.weld.specs.Weld.{welded_points}
 use Rattle.weld.specs.Code.{Welds}
@@ -91,11 +92,13 @@ module _ (rule : Rule) {ss : List Float} {s : ℕ} {zs₀ : List Float} {n m : �
   fresh k h = take-replicate m k false (omega (arith, w.few_edges)) ∙ ap (λ (j : ℕ). replicate j false) (sym edge_count)
 
   module _ (kept : length zs ≡ length zs₀) where
+    points_fit : 2 * n ≤ length zs
+    points_fit = omega (arith, w.few_points, lent.for_points)
+
     numbers : zs ≡ over (flatten (welded_points rule.tol2 (segs 2 s ss))) zs₀
     numbers =
-        let room : 2 * n ≤ length zs = omega (arith, w.few_points, lent.for_points) in
-        let first : flatten (welded_points rule.tol2 (segs 2 s ss)) ≡ take (2 * n) zs = ap flatten (sym w.points) ∙ flatten_rows n zs room in
-        let l : length (take (2 * n) zs) ≡ 2 * n = length-take-le (2 * n) zs room in
+        let first : flatten (welded_points rule.tol2 (segs 2 s ss)) ≡ take (2 * n) zs = ap flatten (sym w.points) ∙ flatten_rows n zs points_fit in
+        let l : length (take (2 * n) zs) ≡ 2 * n = length-take-le (2 * n) zs points_fit in
         rw (first, l, ← w.rest) (sym (take-append-drop (2 * n) zs))
 
     answer_given : (tally : Tally) (nodes' ends' : List ℕ)
@@ -117,11 +120,13 @@ module _ (rule : Rule) {ss : List Float} {s : ℕ} {zs₀ : List Float} {n m : �
           counts_are = p.counts_are;
         }
 
+    -- the graph was lent the first 2 * n numbers
     pub stitches : (tally : Tally) (nodes' ends' : List ℕ)
-        → Wrote (rows 2 n zs) rule (length (take m es)) (walks (rows 2 n zs) (take m es)) tally nodes nodes' ends ends'
+        → let ps = all_rows 2 (take (2 * n) zs) in
+        Wrote ps rule (length (take m es)) (walks ps (take m es)) tally nodes nodes' ends ends'
         → Stitches rule (segs 2 s ss)
         (record { points = n; nodes = tally.counts.in_loops; loops = tally.loops; counts = tally.counts })
         zs₀ zs nodes nodes' ends ends'
     stitches tally nodes' ends' o =
-        let g = answer_given tally nodes' ends' o in
+        let g = answer_given tally nodes' ends' (rw (slice_rows 2 n zs (omega arith) points_fit refl) at o) in
         record { gave = g; claim = claimed rule (segs 2 s ss) _ zs₀ zs nodes nodes' ends ends' g }

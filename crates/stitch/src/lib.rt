@@ -5,7 +5,7 @@ pub mod alone;
 
 ghost use Rattle.std.specs.Prelude.{◌≡◌, cond, false, true, reverse, ◌*◌, ◌+◌, ◌/◌, ◌<◌, ◌≤◌, get_or, length, replicate};
 ghost use Rattle.std.proofs.Math.Seq.{paste};
-ghost use Rattle.vector.specs.Rows.{all_segs, rows};
+ghost use Rattle.vector.specs.Rows.{all_rows, all_segs};
 ghost use Rattle.walk.specs.Walk.{point_at, walks};
 ghost use Rattle.walk.specs.Code.{Below};
 ghost use Rattle.stitch.specs.Stitch.{cross2, in_walks, kind_by, plus_walk, rule_of, signed_area, turned};
@@ -115,8 +115,7 @@ fn stitch_within<const EDGES: usize, const POINTS: usize>(
     let w = weld::weld(segments, rule.tol2, numbers, &mut edges);
     walk::past_edges(&edges[..w.edges], &mut past);
     let graph = Graph {
-        points: numbers,
-        n: w.points,
+        points: &numbers[..2 * w.points],
         edges: &edges[..w.edges],
         past: &past,
     };
@@ -147,8 +146,8 @@ fn stitch_edges(
 ) -> Tally
     requires { Spare graph.now.edges.now walked.old nodes.old ends.old
         × (used.old ≡ replicate (length graph.now.edges.now) false) }
-    ensures { Wrote (rows 2 graph.now.n graph.now.points.now) rule (length graph.now.edges.now)
-        (walks (rows 2 graph.now.n graph.now.points.now) graph.now.edges.now) result
+    ensures { Wrote (all_rows 2 graph.now.points.now) rule (length graph.now.edges.now)
+        (walks (all_rows 2 graph.now.points.now) graph.now.edges.now) result
         nodes.old nodes.new ends.old ends.new }
 {
     let mut tally = Tally {
@@ -179,7 +178,7 @@ fn stitch_from(
 )
     requires { Spare graph.now.edges.now walked.old nodes.old ends.old × (k < length graph.now.edges.now)
         × (length used.old ≡ length graph.now.edges.now) × Counting tally.old used.old }
-    ensures { Turn (rows 2 graph.now.n graph.now.points.now) graph.now.edges.now rule
+    ensures { Turn (all_rows 2 graph.now.points.now) graph.now.edges.now rule
         k (get_or used.old k true) used.old tally.old nodes.old ends.old
         used.new tally.new nodes.new ends.new }
 {
@@ -209,9 +208,9 @@ fn finish(
     ends: &mut [u32],
     tally: &mut Tally,
 )
-    requires { Finishing graph.now.n walked.now closed tally.old nodes.old ends.old }
-    ensures { Finished (kind_by (rows 2 graph.now.n graph.now.points.now) rule closed walked.now)
-        (turned (rows 2 graph.now.n graph.now.points.now) walked.now)
+    requires { Finishing (length graph.now.points.now / 2) walked.now closed tally.old nodes.old ends.old }
+    ensures { Finished (kind_by (all_rows 2 graph.now.points.now) rule closed walked.now)
+        (turned (all_rows 2 graph.now.points.now) walked.now)
         (edges_in closed (length walked.now)) tally.old nodes.old ends.old tally.new
         nodes.new ends.new }
 {
@@ -234,8 +233,8 @@ fn finish(
 
 // Half the sum of the cross products of cyclic neighbours.
 fn signed_area(graph: &Graph, nodes: &[u32]) -> f64
-    requires { (0 < length nodes.now) × Below graph.now.n nodes.now }
-    ensures { result ≡ signed_area (rows 2 graph.now.n graph.now.points.now) nodes.now }
+    requires { (0 < length nodes.now) × Below (length graph.now.points.now / 2) nodes.now }
+    ensures { result ≡ signed_area (all_rows 2 graph.now.points.now) nodes.now }
 {
     let last = nodes.len() - 1;
     let mut area2 = 0.0;
@@ -247,9 +246,9 @@ fn signed_area(graph: &Graph, nodes: &[u32]) -> f64
 
 // The cross product of the points a and b.
 fn cross_at(graph: &Graph, a: u32, b: u32) -> f64
-    requires { (a < graph.now.n) × (b < graph.now.n) }
-    ensures { result ≡ cross2 (point_at (rows 2 graph.now.n graph.now.points.now) a)
-        (point_at (rows 2 graph.now.n graph.now.points.now) b) }
+    requires { (a < length graph.now.points.now / 2) × (b < length graph.now.points.now / 2) }
+    ensures { result ≡ cross2 (point_at (all_rows 2 graph.now.points.now) a)
+        (point_at (all_rows 2 graph.now.points.now) b) }
 {
     let p = graph.point(a);
     let q = graph.point(b);

@@ -1,8 +1,8 @@
 // The walk along listed edges: the junction's choice of the next edge, and the nodes that a walk reaches.
 #![tactic(auto)]
 
-ghost use Rattle.std.specs.Prelude.{◌≡◌, false, not, true, ◌&&◌, ◌||◌, ◌*◌, ◌+◌, ◌<◌, ◌≤◌, eqb, get_or, length, replicate};
-ghost use Rattle.vector.specs.Rows.{rows};
+ghost use Rattle.std.specs.Prelude.{◌≡◌, false, not, true, ◌&&◌, ◌||◌, ◌+◌, ◌/◌, ◌<◌, ◌≤◌, eqb, get_or, length, replicate};
+ghost use Rattle.vector.specs.Rows.{all_rows};
 ghost use Rattle.weld.specs.Weld.{Within};
 ghost use Rattle.walk.specs.Walk.{clamp, cosine_at, cosine_to, next_edge, point_at, straightest, touches, walk_from};
 ghost use Rattle.walk.specs.Code.{Arrived, FirstFrom, NoneFrom, Went};
@@ -10,17 +10,16 @@ ghost use Rattle.walk.specs.Code.{ahead, better, cosine_for};
 
 use weld::Edge;
 
-// n points, the edges between them, and for each point a number from which on no edge ends there. A walk marks the edges that it uses in
-// a slice of its own, since the graph is only read. The points are the caller's numbers, so nothing stands in them beside the coordinates.
+// Points, the edges between them, and for each point a number from which on no edge ends there. The slice of points holds just those, two
+// numbers each: it is of the caller's numbers, so nothing stands in it beside the coordinates. A walk marks the edges that it uses in a
+// slice of its own, since the graph is only read.
 #[derive(Clone, Copy)]
 pub struct Graph<'a> {
     pub points: &'a [f64],
-    pub n: usize,
     pub edges: &'a [Edge],
     pub past: &'a [u32],
-    pub ghost room: { 2 * n ≤ length points.now },
-    pub ghost within: { Within edges.now n },
-    pub ghost past_room: { n ≤ length past.now },
+    pub ghost within: { Within edges.now (length points.now / 2) },
+    pub ghost past_room: { length points.now / 2 ≤ length past.now },
     pub ghost none_past: { NoneFrom edges.now past.now },
 }
 
@@ -35,8 +34,8 @@ pub struct Walked {
 impl Graph<'_> {
     // The point number a.
     pub fn point(&self, a: u32) -> [f64; 2]
-        requires { a < self.now.n }
-        ensures { result ≡ point_at (rows 2 self.now.n self.now.points.now) a }
+        requires { a < length self.now.points.now / 2 }
+        ensures { result ≡ point_at (all_rows 2 self.now.points.now) a }
     {
         vector::coord(self.points, a as usize)
     }
@@ -48,7 +47,7 @@ impl Graph<'_> {
             × (length used.old ≡ length self.now.edges.now) × (length self.now.edges.now < length nodes.old)
             × (get_or used.old start_edge true ≡ false) }
         ensures { Went
-            (walk_from (rows 2 self.now.n self.now.points.now) self.now.edges.now start_edge used.old)
+            (walk_from (all_rows 2 self.now.points.now) self.now.edges.now start_edge used.old)
             result.nodes result.closed used.new nodes.new }
     {
         let start_node = self.edges[start_edge].smaller;
@@ -85,7 +84,7 @@ impl Graph<'_> {
     // The first unused edge at current, from edge k on. Not inlined, and no method of Step: with one, 384 segments took 4 % longer.
     #[inline(never)]
     fn first_available(&self, used: &[bool], current: u32, k: usize) -> Option<usize>
-        requires { (length used.now ≡ length self.now.edges.now) × (current < self.now.n) }
+        requires { (length used.now ≡ length self.now.edges.now) × (current < length self.now.points.now / 2) }
         ensures { FirstFrom current self.now.edges.now used.now k result }
     {
         let edges = self.edges;
@@ -106,8 +105,8 @@ struct Step<'a> {
     previous: u32,
     current: u32,
     ghost alike: { length used.now ≡ length graph.now.edges.now },
-    ghost from: { previous < graph.now.n },
-    ghost at: { current < graph.now.n },
+    ghost from: { previous < length graph.now.points.now / 2 },
+    ghost at: { current < length graph.now.points.now / 2 },
 }
 
 impl Step<'_> {
@@ -115,7 +114,7 @@ impl Step<'_> {
     // taken. At a degenerate node, the straightest continuation is used.
     fn select_next_edge(&self) -> Option<usize>
         ensures { let g = self.now.graph.now in
-            result ≡ next_edge (rows 2 g.n g.points.now) g.edges.now self.now.used.now self.now.previous self.now.current }
+            result ≡ next_edge (all_rows 2 g.points.now) g.edges.now self.now.used.now self.now.previous self.now.current }
     {
         let Step {
             graph,
@@ -134,7 +133,7 @@ impl Step<'_> {
     fn straightest(&self, first: usize, second: usize) -> usize
         requires { (first < length self.now.graph.now.edges.now) × (second < length self.now.graph.now.edges.now) }
         ensures { let g = self.now.graph.now in
-            let f = cosine_at (rows 2 g.n g.points.now) g.edges.now self.now.previous self.now.current in
+            let f = cosine_at (all_rows 2 g.points.now) g.edges.now self.now.previous self.now.current in
             result ≡ straightest f first (f first) (ahead self.now.current g.edges.now self.now.used.now (Some second)) }
     {
         let arrival = self.arrive();
@@ -153,7 +152,7 @@ impl Step<'_> {
     // The arrival at the current point from the previous one.
     fn arrive(&self) -> Arrival
         ensures { let g = self.now.graph.now in
-            Arrived (rows 2 g.n g.points.now) self.now.previous self.now.current result }
+            Arrived (all_rows 2 g.points.now) self.now.previous self.now.current result }
     {
         let at = self.graph.point(self.current);
         let incoming = vector::minus(at, self.graph.point(self.previous));
@@ -169,7 +168,7 @@ impl Step<'_> {
     // The cosine of edge k after an arrival.
     fn cosine_along(&self, arrival: Arrival, k: usize) -> f64
         requires { k < length self.now.graph.now.edges.now }
-        ensures { let g = self.now.graph.now in result ≡ cosine_for arrival (rows 2 g.n g.points.now) g.edges.now k }
+        ensures { let g = self.now.graph.now in result ≡ cosine_for arrival (all_rows 2 g.points.now) g.edges.now k }
     {
         let next = self.graph.edges[k].other(arrival.node);
         arrival.cosine(self.graph.point(next))

@@ -2,7 +2,7 @@
 use mathlib.Core.Path.{sym, ◌∙◌}
 use Rattle.std.specs.Prelude.{Some}
 use Rattle.std.proofs.lemmas.Option.{IfSome_then}
-use Rattle.vector.specs.Rows.{rows}
+use Rattle.vector.specs.Rows.{all_rows}
 use Rattle.walk.specs.Walk.{cosine_at, straightest}
 use Rattle.walk.specs.Code.{ahead}
 use Rattle.walk.proofs.Scan.{arrived_cosine, seek_step, straightest_end}
@@ -12,7 +12,7 @@ pub loop-next-preserved : goal.loop-next-preserved
 loop-next-preserved c =
     let s = c.args.self.now in
     let es = s.graph.now.edges.now in
-    let ps = rows 2 s.graph.now.n s.graph.now.points.now in
+    let ps = all_rows 2 s.graph.now.points.now in
     let l = c.loop-next in
     let k = c.in-Some.k in
     let f = cosine_at ps es s.previous s.current in
@@ -30,7 +30,7 @@ returns c =
     let s = c.args.self.now in
     let es = s.graph.now.edges.now in
     let l = c.loop-next in
-    let f = cosine_at (rows 2 s.graph.now.n s.graph.now.points.now) es s.previous s.current in
+    let f = cosine_at (all_rows 2 s.graph.now.points.now) es s.previous s.current in
     let all = straightest f c.args.first (f c.args.first) (ahead s.current es s.used.now (Some c.args.second)) in
     let h = rw c.in_default.is at l.invariant.1 in
     sym {a = all} (◌∙◌ {a = all} h (straightest_end f l.best.edge l.best.cosine))
