@@ -14,8 +14,8 @@ const SQUARE: [f64; 8] = [0.0, 0.0, 1.0, 0.0, 1.0, 1.0, 0.0, 1.0];
 const UP: [f64; 3] = [0.0, 0.0, 1.0];
 const MIDDLE: [f64; 3] = [0.5; 3];
 
-/// What the cases are about, by their number from 1 on. Case 15, the brick gathered, is not recorded and has no name.
-pub const NAMES: [&str; 14] = [
+/// What the cases are about, by their number from 1 on.
+pub const NAMES: [&str; 15] = [
     "PHED 0 1 2 MAX 3 4 MAX 5 6 7, its two faces at z = 0.5",
     "brick at z = 0.5",
     "brick at z = 0 and z = 2",
@@ -30,6 +30,7 @@ pub const NAMES: [&str; 14] = [
     "roots of 4 and 2^-1074",
     "vectors too long, of no length, infinite",
     "384 and 385 segments, PGON of 256 and 257",
+    "brick at z = 0.5, gathered",
 ];
 
 /// A case, its number in docs/RULES.md, and its answer there.

@@ -48,6 +48,7 @@ pub fn wrong() -> Vec<Vec<u64>> {
     let point: Spoil = |a| a.told.points += 1;
     let value: Spoil = |a| a.told.tolerance *= 2.0;
     let others = [
+        (brick(Entry::Gather, [0.0, 0.0, 0.5], up), point),
         (brick(Entry::LineInSpace, [0.5; 3], up), point),
         (square(Entry::PlaneCellByNormal), point),
         (square(Entry::PlaneCellByDirection), point),

@@ -261,8 +261,11 @@ def test_as_a_program(path):
     assert done.returncode == 0 and "polygons" in done.stdout and done.stderr == ""
 
 
-def test_library_that_is_not_there(path, tmp_path):
+@pytest.mark.parametrize("name", ["none.so", "other.so"])
+def test_library_that_is_not_there(path, tmp_path, name):
+    """Or that is another one, or older than the package."""
+    subprocess.run(["gcc", "-shared", "-o", tmp_path / "other.so", "-x", "c", "/dev/null"], check=True)
     program = Path(__file__).resolve().parents[1] / "bin" / "cicelybeam"
     done = subprocess.run([program, "plane", path, *PLANE], capture_output=True, text=True,
-                          env={"CICELYBEAM_LIBRARY": str(tmp_path / "none.so"), "PATH": "/usr/bin"})
+                          env={"CICELYBEAM_LIBRARY": str(tmp_path / name), "PATH": "/usr/bin"})
     assert done.returncode == 1 and "run python/build" in done.stderr

@@ -21,7 +21,8 @@ def test_examples(tmp_path, monkeypatch, capsys):
         exec(compile(block, str(README), "exec"), names)  # noqa: S102
     said = capsys.readouterr().out
     assert "with a total area of" in said and "is not finite" in said
-    assert {p.name for p in tmp_path.iterdir()} == {"part.msh", "part.pdf", "part.html", "part.json", "part.vtp", "line.csv", "line.svg"}
+    assert {p.name for p in tmp_path.iterdir()} == {"part.msh", "part.pdf", "part.html", "part.json", "part.vtp", "line.csv", "line.svg",
+                                                    "traces.csv", "traces.svg", "broken.svg"}
     assert names["volume"] == pytest.approx(names["cut"].record.area, rel=1e-9)  # it is a prism, of height 1
 
 
@@ -29,7 +30,7 @@ def test_representations_are_short():
     plane = cicelybeam.cut_plane(sample.plate(), (0, 0, 0.4), (0, 0, 1))
     line = cicelybeam.cut_line(sample.plate(), (0, 0.3, 0.4), (1, 0, 0))
     mesh = cicelybeam.of_meshio(sample.plate(), "plate.msh")
-    for thing in (plane, line, mesh):
+    for thing in (plane, line, mesh, plane.traces()):
         assert len(repr(thing)) < 120 and "\n" not in repr(thing)
     assert "area 20.8785" in repr(plane) and "plate.msh" in repr(mesh)
 
@@ -53,6 +54,8 @@ def test_representations_are_short():
     lambda mesh, path: cicelybeam.cut_plane(mesh, (0, 0, 0.4), (0, 0, 1)).draw(path / "a.svg", colour="heat"),
     lambda mesh, path: cicelybeam.cut_plane(mesh, (0, 0, 0.4), (0, 0, 1)).draw(path / "a.svg", color="type"),
     lambda mesh, path: cicelybeam.cut_plane(mesh, (0, 0, 0.4), (0, 0, 1)).area_by("heat"),
+    lambda mesh, path: cicelybeam.cut_plane(mesh, (0, 0, 0.4), (0, 0, 1)).traces().write(path / "a.json"),
+    lambda mesh, path: cicelybeam.cut_line(mesh, (0, 0, 0.4), (1, 0, 0)).draw(path / "a.svg", show="traces"),
     lambda mesh, path: cicelybeam.cut_line(mesh, (0, 0, 0.4), (1, 0, 0)).area_by("type"),
     lambda mesh, path: cicelybeam.cut_line(mesh, (0, 0, 0.4), (1, 0, 0)).write(path / "a.vtp"),
 ])

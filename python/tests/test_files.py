@@ -77,6 +77,7 @@ def test_two_outputs_of_one_name(path, tmp_path, capsys):
 
 
 OUTPUTS = [("--report", "a.json"), ("--report", "a.csv"), ("--report", "a.html"), ("--table", "a.csv"), ("--vtk", "a.vtp"),
+           ("--traces", "a.csv"), ("--traces", "a.vtp"),
            ("--vtk", "a.vtu"), ("--vtk", "a.vtk"), ("--vtk", "a.ply"), ("--vtk", "a.obj"), ("--picture", "a.svg"),
            ("--picture", "a.png"), ("--picture", "a.pdf"), ("--picture", "a.eps")]
 

@@ -42,12 +42,14 @@ def test_an_answer_or_an_error_of_its_own(kind, n, how, seed, tol, shift):
         warnings.simplefilter("error")
         try:
             cut = cicelybeam.cut_plane(mesh, origin, normal, tol, shift=shift)
+            traces = cut.traces()
             along = cicelybeam.cut_line(mesh, origin, normal, tol)
         except cicelybeam.CicelybeamError as error:
             assert str(error)
             return
     record = cut.record
     assert record.listed == record.in_loops + record.flat + record.open
+    assert record.listed <= record.traces == len(traces) == len(traces.in_space()) and record.with_edges <= record.with_traces
     assert str(cut) and record.as_dict() and len(cut.in_space()) == len(cut.points) and str(along)
     if record.nothing_lost:
         assert 0 <= record.area < np.inf and not record.not_finite

@@ -39,7 +39,7 @@ def test_record_in_the_readme():
 def test_pictures_of_the_documentation(tmp_path):
     """They are what the package draws today."""
     pictures.draw(tmp_path)
-    for name in ("plate.svg", "undrawn.svg"):
+    for name in ("plate.svg", "undrawn.svg", "traces.svg"):
         assert (tmp_path / name).read_bytes() == (ROOT / "docs" / name).read_bytes(), f"run python/pictures.py: docs/{name} has changed"
         assert any(f"docs/{name}" in (ROOT / place).read_text() for place in ("README.md", "python/README.md"))
 

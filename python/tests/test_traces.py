@@ -1,8 +1,6 @@
 """The traces of a plane on faces: against the whole cell's segments, the rules and the polygons; the files, the record and the picture."""
 import csv
 import json
-import re
-import subprocess
 import warnings
 from pathlib import Path
 
@@ -14,15 +12,11 @@ from hypothesis import given, settings
 from hypothesis import strategies as st
 from matplotlib import image
 from test_calls import one_call
-from test_examples import test_every_error_is_told_in_a_sentence as every_error_is_told_in_a_sentence
 from test_figure import SECTIONS, figure, legend_of, test_nothing_is_over_anything_else as nothing_is_over_anything_else
 from test_files import OPEN_BRICK, grouped, parts, run
-from test_files import test_disk_that_is_full as disk_that_is_full, test_mode_and_links_stay as mode_and_links_stay
-from test_odd_meshes import SPOILED, spoil
 from test_types import NODES, solid, with_mid_nodes
 
 import cicelybeam
-import pictures
 import sample
 from cicelybeam import cells, place, plane
 from cicelybeam.celltypes import POLYHEDRON, prism_faces
@@ -625,81 +619,3 @@ def test_help_names_them(capsys):
         run("plane", "--help")
     said = capsys.readouterr().out
     assert "--traces FILE" in said and "--show {polygons,traces}" in said and "\n  trace     " in said
-
-
-ROOT = Path(__file__).resolve().parents[2]
-README = ROOT / "python" / "README.md"
-TRACES = [("--traces", "a.csv"), ("--traces", "a.vtp")]
-
-
-def test_examples_of_traces(tmp_path, monkeypatch, capsys):
-    """The examples of traces in python/README.md are run as they stand, after the first one, which cuts the mesh."""
-    text = README.read_text()
-    first = re.search(r"```python\n(.*?)```", text.split("<!-- examples")[1], flags=re.DOTALL).group(1)
-    block = re.search(r"```python\n(.*?)```", text.split("<!-- examples of traces -->")[1], flags=re.DOTALL).group(1)
-    sample.write(sample.plate(), tmp_path / "part.msh")
-    monkeypatch.chdir(tmp_path)
-    names = {"sample": sample}
-    for code in (first, block):
-        exec(compile(code, str(README), "exec"), names)  # noqa: S102
-    capsys.readouterr()
-    assert {p.name for p in tmp_path.iterdir()} >= {"part.msh", "traces.csv", "traces.svg", "broken.svg"}
-
-
-def test_representation_is_short():
-    traces = cicelybeam.cut_plane(sample.plate(), (0, 0, 0.4), (0, 0, 1)).traces()
-    assert len(repr(traces)) < 120 and "\n" not in repr(traces)
-
-
-@pytest.mark.parametrize("wrong", [
-    lambda mesh, path: cicelybeam.cut_plane(mesh, (0, 0, 0.4), (0, 0, 1)).traces().write(path / "a.json"),
-    lambda mesh, path: cicelybeam.cut_line(mesh, (0, 0, 0.4), (1, 0, 0)).draw(path / "a.svg", show="traces"),
-])
-def test_errors_are_told_in_sentences(tmp_path, wrong):
-    every_error_is_told_in_a_sentence(tmp_path, wrong)
-
-
-@pytest.mark.parametrize("option,name", TRACES)
-def test_disk_that_is_full(path, tmp_path, capsys, option, name):
-    disk_that_is_full(path, tmp_path, capsys, option, name)
-
-
-@pytest.mark.parametrize("option,name", TRACES)
-def test_mode_and_links_stay(path, tmp_path, option, name):
-    mode_and_links_stay(path, tmp_path, option, name)
-
-
-@settings(max_examples=120)
-@given(st.sampled_from(["hexahedron", "tetra", "wedge", "pyramid"]), st.integers(1, 2), st.sampled_from(SPOILED),
-       st.integers(0, 2**32 - 1), st.sampled_from([None, 1e-12, 0.0, 1e-3, 0.3, 1e10]), st.booleans())
-def test_traces_of_odd_meshes(kind, n, how, seed, tol, shift):
-    rng = np.random.default_rng(seed)
-    mesh = box(n, kind)
-    spoil(mesh, how, rng)
-    origin, normal = rng.random(3), rng.choice([0.0, 1.0, -1.0, 0.3], 3) + [0, 0, 1.5]
-    with warnings.catch_warnings():
-        warnings.simplefilter("error")
-        try:
-            cut = cicelybeam.cut_plane(mesh, origin, normal, tol, shift=shift)
-            traces = cut.traces()
-        except cicelybeam.CicelybeamError as error:
-            assert str(error)
-            return
-    record = cut.record
-    assert record.listed <= record.traces == len(traces) == len(traces.in_space()) and record.with_edges <= record.with_traces
-
-
-def test_picture_of_the_documentation(tmp_path):
-    """It is what the package draws today."""
-    pictures.draw(tmp_path)
-    assert (tmp_path / "traces.svg").read_bytes() == (ROOT / "docs" / "traces.svg").read_bytes(), "run python/pictures.py: docs/traces.svg has changed"
-    assert "docs/traces.svg" in README.read_text()
-
-
-def test_library_that_is_another(path, tmp_path):
-    """A library that is another one, or older than the package, is told as one that is not there is."""
-    subprocess.run(["gcc", "-shared", "-o", tmp_path / "other.so", "-x", "c", "/dev/null"], check=True)
-    program = ROOT / "python" / "bin" / "cicelybeam"
-    done = subprocess.run([program, "plane", path, *PLANE], capture_output=True, text=True,
-                          env={"CICELYBEAM_LIBRARY": str(tmp_path / "other.so"), "PATH": "/usr/bin"})
-    assert done.returncode == 1 and "run python/build" in done.stderr

@@ -15,8 +15,9 @@ use oracle::Build;
 use std::process::ExitCode;
 
 /// Each entry with its name and how many random cases it has.
-const SHARES: [(Entry, &str, usize); 7] = [
+const SHARES: [(Entry, &str, usize); 8] = [
     (Entry::Plane, "plane cut", 2000),
+    (Entry::Gather, "gathering", 430),
     (Entry::LineInSpace, "line cut in space", 900),
     (Entry::PlaneCellByNormal, "plane cell by normal", 600),
     (Entry::PlaneCellByDirection, "plane cell by direction", 600),
@@ -70,13 +71,11 @@ fn main() -> ExitCode {
     ExitCode::from(u8::from(differing > 0))
 }
 
-/// The worked cases, by their number. Case 12, two square roots, has none here. What is gathered is not recorded.
+/// The worked cases, by their number. Case 12, two square roots, has none here.
 fn cases_worked() -> Vec<(String, Vec<Right>)> {
     let all = worked_in_all_buffers();
     let of = |number| {
-        let cases = all
-            .iter()
-            .filter(move |one| one.number == number && one.case.entry != Entry::Gather);
+        let cases = all.iter().filter(move |one| one.number == number);
         let right = |one: &Worked| (one.case.clone(), one.answer.clone());
         cases.map(right).collect()
     };

@@ -7,7 +7,7 @@ use Rattle.std.specs.Float.Ieee.{mul}
 use Rattle.root.specs.Root.{sqrt_of}
 use Rattle.vector.specs.Number.{f0, f1, minus_one, half}
 use Rattle.vector.specs.Vector.{Vector, at, dot_from, least_aligned_axis, unit}
-use Rattle.vector.specs.Rows.{segs}
+use Rattle.vector.specs.Rows.{Seg, seg, segs}
 use Rattle.rows.specs.Outcome.{Outcome, refused, found}
 use Rattle.vector.specs.Tolerance.{tolerance, tolerance_of}
 use Rattle.cell.specs.Types.{space_type}
@@ -21,6 +21,7 @@ use Rattle.stitch.specs.Stitch.{Answer, area2_from, f2, signed_area, stitched_wi
 use Rattle.stitch.specs.Entry.{stitch_alone}
 use Rattle.cuts.specs.Cuts.{through}
 use Rattle.plane_cut.specs.PlaneCut.{plane_cut}
+use Rattle.gather.specs.Gather.{gather_cut}
 
 -- ---- what is asked, and how it is answered
 
@@ -29,6 +30,8 @@ pub data Asked : Type 0 where
   faces : List ℕ → Asked
   -- the plane cut with tolerance 0 of a cell of a type, by its connectivity and coordinates, by a plane's origin and normal
   plane : ℕ → List ℕ → List Float → List Float → List Float → Asked
+  -- gathering, of the same
+  gather : ℕ → List ℕ → List Float → List Float → List Float → Asked
   -- stitching alone, with a tolerance
   stitch : List Float → Float → Asked
   -- the tolerance of coordinates in space
@@ -37,16 +40,17 @@ pub data Asked : Type 0 where
   root : Float → Asked
 
 -- a walk by its nodes, and its area where it is closed
-pub data Trace : Type 0 where
-  closed : List ℕ → Float → Trace
-  unclosed : List ℕ → Trace
+pub data Walked : Type 0 where
+  closed : List ℕ → Float → Walked
+  unclosed : List ℕ → Walked
 
 pub data Answered : Type 0 where
   positions : List Face → Answered
   -- a section, and the areas of its loops
   sectioned : Outcome Answer → List Float → Answered
+  segments : Outcome (List Seg) → Answered
   -- a section, and all walks
-  stitched : Outcome Answer → List Trace → Answered
+  stitched : Outcome Answer → List Walked → Answered
   number : Outcome Float → Answered
 
 abbrev pub areas : Outcome Answer → List Float
@@ -54,24 +58,25 @@ areas (refused k) = []
 areas (found a) = map (signed_area a.points) a.loops
 
 -- a walk over welded points
-abbrev pub trace : List Vector → Walk → Trace
-trace ps w = cond w.closed (closed w.nodes (signed_area ps w.nodes)) (unclosed w.nodes)
+abbrev pub walked : List Vector → Walk → Walked
+walked ps w = cond w.closed (closed w.nodes (signed_area ps w.nodes)) (unclosed w.nodes)
 
-abbrev pub traces : List Float → Float → List Trace
-traces xs tol =
+abbrev pub all_walked : List Float → Float → List Walked
+all_walked xs tol =
     let t = mul binary64 tol tol in
     let ss = segs 2 (length xs / 4) xs in
     let ps = welded_points t ss in
-    map (trace ps) (walks ps (listed_edges t ss))
+    map (walked ps) (walks ps (listed_edges t ss))
 
 -- by the definitions, in buffers of the sizes that docs/RULES.md gives for 24 face corners, or for the segments
 unfoldable pub answered : Asked → Answered
 unfolding flatten stretches kept space_type read_as are_rows least_aligned_axis unit dot_from tolerance plane_section_segments mul stitched_within points_from becomes edges_from walks_from area2_from
 answered (faces c) = positions (faces_of Phed c)
 answered (plane t c xs o n) = let r = plane_cut (cell t c xs) (through o n) f0 (record { numbers = 144; nodes = 36; ends = 12 }) in sectioned r (areas r)
+answered (gather t c xs o n) = segments (gather_cut (cell t c xs) (through o n) f0 144)
 answered (stitch xs tol) =
     let s = length xs / 4 in
-    stitched (stitch_alone xs tol (record { numbers = length xs; nodes = s; ends = s / 3 })) (traces xs tol)
+    stitched (stitch_alone xs tol (record { numbers = length xs; nodes = s; ends = s / 3 })) (all_walked xs tol)
 answered (tolerance_in xs) = number (tolerance_of 3 xs)
 answered (root x) = number (found (sqrt_of binary64 x))
 
@@ -170,6 +175,9 @@ table =
     -- 12
     ∷ case (root (fin false 1 (pos 2))) (number (found f2))
     ∷ case (root (fin false 1 (negsuc 1073))) (number (found (fin false 1 (negsuc 536))))
+    -- 15
+    ∷ case (gather 14 brick cube (level half) up)
+    (segments (found (seg O (pt f1 f0) ∷ seg (pt f1 f1) (pt f0 f1) ∷ seg (pt f1 f0) (pt f1 f1) ∷ seg (pt f0 f1) O ∷ [])))
     ∷ []
 
 -- the definitions answer each case as the paper does

@@ -1,4 +1,4 @@
-//! What the Rust gives for the fourteen cases that docs/RULES.md works by hand.
+//! What the Rust gives for the fifteen cases that docs/RULES.md works by hand.
 
 use oracle::counts::{counts, listed};
 use oracle::*;
@@ -25,6 +25,23 @@ fn main() {
     leaves();
     odd_normals();
     limits();
+    gathered();
+}
+
+fn gathered() {
+    heading("15. * Brick at z = 0.5, gathered: (0,0)-(1,0), (1,1)-(0,1), (1,0)-(1,1), (0,1)-(0,0), one on each face from the third on.");
+    let sides = [
+        [[0.0, 0.0], [1.0, 0.0]],
+        [[1.0, 1.0], [0.0, 1.0]],
+        [[1.0, 0.0], [1.0, 1.0]],
+        [[0.0, 1.0], [0.0, 0.0]],
+    ];
+    let found =
+        BUILDS.map(|build| plane_segments(build, hex(), &[0.0, 0.0, 0.5], &UP, 0.0).unwrap());
+    for segment in &found[0] {
+        println!("   {}", pairs(segment));
+    }
+    verdict(found.iter().all(|segments| segments == &sides));
 }
 
 fn faces_of_phed() {
