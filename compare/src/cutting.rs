@@ -214,10 +214,14 @@ fn crossed(case: &Case) -> bool {
 /// Holds an entry against mefikit's on random cases.
 pub fn compare(entry: Entry, cases: u64, cut: Cut) -> Reached {
     let mut random = Random::new(0x9ae1_6a3b_2f90_404f + entry as u64);
+    compare_each((0..cases).map(|_| any_case(&mut random, entry)), cut)
+}
+
+/// The same on these cases.
+pub fn compare_each(cases: impl Iterator<Item = Case>, cut: Cut) -> Reached {
     let mut buffers = Buffers::default();
     let mut reached = Reached::default();
-    for _ in 0..cases {
-        let case = any_case(&mut random, entry);
+    for case in cases {
         reached.count(&case, judge(&case, cut, &mut buffers));
     }
     reached

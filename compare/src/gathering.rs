@@ -1,8 +1,9 @@
-//! Gathering, and then stitching what was gathered, held against the plane cut; and the segments of a cell against
-//! those of its faces, each handed over alone.
+//! Gathering held against mefikit's Rust; and on the same cells gathering, and then stitching what was gathered, against the
+//! plane cut, and the segments of a cell against those of its faces, each handed over alone.
 
 use crate::answers::{given, room, Answer, PHED};
 use crate::cuts::any_case;
+use crate::cutting::{compare_each, Reached};
 use crate::entries::{Case, Cut, Entry};
 use crate::numbers::{agree, same};
 use crate::random::Random;
@@ -33,11 +34,7 @@ pub struct Right {
 pub fn judge(case: &Case, cut: Cut) -> Result<Right, String> {
     let wrong = |what: &str| Err(format!("{what}: {}", case.told()));
     let section = given(case, cut);
-    let gathering = Case {
-        entry: Entry::Gather,
-        lent: [case.lent[0], 0, 0],
-        ..case.clone()
-    };
+    let gathering = gathering_of(case);
     let gathered = given(&gathering, cut);
     let expected = refusal_of_gathering(case, section.told.refusal);
     if gathered.told.refusal != expected {
@@ -58,6 +55,15 @@ pub fn judge(case: &Case, cut: Cut) -> Result<Right, String> {
         segments: gathered.told.points as usize,
         faces: alone.len(),
     })
+}
+
+/// The gathering that this plane cut begins with.
+fn gathering_of(case: &Case) -> Case {
+    Case {
+        entry: Entry::Gather,
+        lent: [case.lent[0], 0, 0],
+        ..case.clone()
+    }
 }
 
 /// The plane cut's, but that gathering needs no nodes and ends.
@@ -95,12 +101,21 @@ fn face_by_face(cell: Case, cut: Cut) -> Vec<Vec<f64>> {
     faces.into_iter().map(gather).collect()
 }
 
-/// Holds gathering, then stitching, against the plane cut of random cells.
-pub fn compare(cases: u64, cut: Cut) -> Gathered {
+/// Random plane cuts, each refusal among them.
+fn plane_cuts(cases: u64) -> impl Iterator<Item = Case> {
     let mut random = Random::new(0x8f1b_bcdc_bf58_476d);
+    (0..cases).map(move |_| any_case(&mut random, Entry::Plane))
+}
+
+/// Holds the gathering of random plane cuts against mefikit's Rust.
+pub fn compare_with_rust(cases: u64, cut: Cut) -> Reached {
+    compare_each(plane_cuts(cases).map(|case| gathering_of(&case)), cut)
+}
+
+/// Holds gathering, then stitching, against the same plane cuts.
+pub fn compare(cases: u64, cut: Cut) -> Gathered {
     let mut all = Gathered::default();
-    for _ in 0..cases {
-        let case = any_case(&mut random, Entry::Plane);
+    for case in plane_cuts(cases) {
         let outcome = judge(&case, cut);
         if let Ok(right) = &outcome {
             all.refused[right.refusal as usize] += 1;

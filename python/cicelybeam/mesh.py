@@ -247,8 +247,10 @@ class Mesh:
         return block.corners(cell - block.first)
 
     def middle(self, cell: int) -> np.ndarray:
-        """The mean of the corners of a cell that is cut."""
-        return self.points[self.corners(cell)].mean(axis=0)
+        """The mean of the corners of a cell that is cut; of those that are finite, where any is."""
+        corners = self.points[self.corners(cell)]
+        finite = np.isfinite(corners).all(axis=1)
+        return (corners[finite] if finite.any() else corners).mean(axis=0)
 
     def group_of(self, cells: np.ndarray) -> np.ndarray | None:
         """The number of the group of each of these cells, or None where the file has no groups; `groups` has the names."""

@@ -310,8 +310,8 @@ def _draw_traces(sheet: Sheet, traces: Traces, project: Callable[[np.ndarray], n
 
 
 def _draw_undrawn(sheet: Sheet, cut: PlaneCut, points: np.ndarray, size: float) -> None:
-    """The edges that were not drawn: in red where area is lost, else as thin as the cells' own."""
-    lost = {cell.cell for cell in cut.record.lost_cells}
+    """The edges that were not drawn: in red where area is lost or a corner is not finite, else as thin as the cells' own."""
+    lost = {cell.cell for cell in cut.record.lost_cells} | {*cut.record.not_finite}
     edges = undrawn_edges(cut)
     touched, missing = [edge for cell, edge in edges if cell not in lost], [edge for cell, edge in edges if cell in lost]
     for colour, chosen in ((INK, touched), (RED, missing)):

@@ -81,6 +81,7 @@ class PlaneRecord:
     in_loops: int
     flat: int
     open: int
+    with_undrawn: int  # cells with a flat or open edge
     touching_cells: int  # of the cells in undrawn, those with no area lost
     undrawn: list[UndrawnCell]
     crossed_without_edge: list[int]
@@ -163,12 +164,11 @@ class PlaneRecord:
     def _drawn_in_words(self) -> str:
         if not self.flat and not self.open:
             return ", and no listed edge is left undrawn"
-        cells = sum(cell.flat + cell.open > 0 for cell in self.undrawn)
         edges = " and ".join(number(count, f"{kind} edge") for count, kind in ((self.flat, "flat"), (self.open, "open")) if count)
         one = self.flat + self.open == 1
-        lost = any(cell.flat + cell.open for cell in self.lost_cells)
-        return (f", and {edges} in {number(cells, 'cell')} {'is' if one else 'are'} not drawn"
-                + ("" if lost else f", which {'bounds' if one else 'bound'} no area"))
+        touching = sum(cell.touching and cell.flat + cell.open > 0 for cell in self.undrawn)  # of others it is not known, or area is lost
+        return (f", and {edges} in {number(self.with_undrawn, 'cell')} {'is' if one else 'are'} not drawn"
+                + (f", which {'bounds' if one else 'bound'} no area" if touching == self.with_undrawn else ""))
 
     def _remarks(self) -> list[str]:
         """What else a reader of the area has to know."""
@@ -309,12 +309,12 @@ def plane_record(cut: PlaneCut, section: Section) -> PlaneRecord:
         area=net.area, repeated_area=net.repeated, coincident_polygons=net.coincident, doubled_polygons=net.doubled,
         lost_area=lost, lost_share=lost / (net.area + lost) if lost else 0.0,
         jump_area=section.jumps.area, jump_cells=section.jumps.cells, listed=listed, in_loops=in_loops, flat=flat, open=opened,
-        touching_cells=sum(cell.touching for cell in undrawn), undrawn=undrawn,
+        with_undrawn=int((cut.counts[:, 2:] > 0).any(axis=1).sum()), touching_cells=sum(cell.touching for cell in undrawn), undrawn=undrawn,
         crossed_without_edge=reached.no_edge.tolist(), crossed_face_without_segment=reached.no_segment.tolist(),
         within_tolerance=reached.within.tolist(), not_finite=reached.not_finite.tolist(),
         missed_by=_missed_by(cut, section), dropped=mesh.dropped,
     )
-    record.warnings = _warnings(record, mesh.remarks)
+    record.warnings = _warnings(record, mesh) + _far_away(record, cut)
     return record
 
 
@@ -335,14 +335,14 @@ def _undrawn(cut: PlaneCut, section: Section) -> list[UndrawnCell]:
 
 
 def _missed_by(cut: PlaneCut, section: Section) -> float:
-    """The least distance of a corner, where the plane neither passes through a cell nor touches one along an edge."""
+    """The least distance of a corner, where the plane neither passes through a cell nor touches one along an edge; 0 if no face has corners."""
     reached = section.reached
     if len(reached.through) or len(cut.cells) or len(reached.within) or len(reached.not_finite):
         return 0.0
     corners = np.zeros(len(cut.mesh.points), dtype=bool)
     for block in cut.mesh.blocks:
         corners[block.all_corners()] = True
-    return float(np.abs(distances(cut.mesh.points[corners], cut.near.origin, cut.near.normal)).min())
+    return float(np.abs(distances(cut.mesh.points[corners], cut.near.origin, cut.near.normal)).min()) if corners.any() else 0.0
 
 
 def _not_cut_reached(mesh: Mesh, sides: Sides) -> dict[str, int]:
@@ -362,11 +362,18 @@ def below_own(tol: float, own: float, cut: str) -> str:
             "its edge is then not found, and no count of edges shows it")
 
 
-def _warnings(record: PlaneRecord, remarks: list[str]) -> list[str]:
-    found = [f"meshio says: {remark}" for remark in remarks]
+def _no_edge_at_all(record: PlaneRecord, mesh: Mesh) -> str:
+    if not any(block.all_corners().size for block in mesh.blocks):
+        return "no cell that is cut has a face of three nodes or more: there is nothing that the plane could meet"
+    met = (f"meets no cell that is cut: it misses the nearest corner by {record.missed_by:.6g}" if record.missed_by
+           else "has no edge in any cell that is cut")
+    return f"the plane {met}; the mesh extends over {extent(record.extent)}"
+
+
+def _warnings(record: PlaneRecord, mesh: Mesh) -> list[str]:
+    found = [f"meshio says: {remark}" for remark in mesh.remarks]
     if not record.crossed and not record.with_edges:
-        found.append(f"the plane meets no cell that is cut: it misses the nearest corner by {record.missed_by:.6g}; "
-                     f"the mesh extends over {extent(record.extent)}")
+        found.append(_no_edge_at_all(record, mesh))
     if not record.tolerance >= record.mesh_tolerance:
         found.append(below_own(record.tolerance, record.mesh_tolerance, "plane"))
     if any(cell.what in ("no edge", "a face without a segment") for cell in record.lost_cells):
@@ -388,3 +395,12 @@ def _warnings(record: PlaneRecord, remarks: list[str]) -> list[str]:
     if any(record.not_cut_reached.values()):
         found.append(f"cells of types that are not cut may reach the plane: {counted(record.not_cut_reached)}")
     return found
+
+
+def _far_away(record: PlaneRecord, cut: PlaneCut) -> list[str]:
+    """A warning where coordinates in the plane, told from its origin, are rounded to steps above the tolerance."""
+    step = float(np.spacing(np.abs(cut.offset).max()))
+    if not record.with_edges or not step > max(record.tolerance, record.mesh_tolerance):
+        return []
+    return [f"the origin is so far from the mesh that coordinates in the plane, u and v from the origin, are rounded to steps of {step:.2g}; "
+            "areas and coordinates in space are not: give a point of the plane that is nearer"]

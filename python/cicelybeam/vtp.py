@@ -54,8 +54,8 @@ def poly_data(points: np.ndarray, lines: np.ndarray, rings: np.ndarray, ends: np
 
 
 def _array(name: str, values: np.ndarray) -> str:
-    values = values.astype("<f8" if values.dtype.kind == "f" else "<i8")
-    kind = "Float64" if values.dtype.kind == "f" else "Int64"
+    kind, words = {"f": ("Float64", "<f8"), "u": ("UInt64", "<u8")}.get(values.dtype.kind, ("Int64", "<i8"))
+    values = values.astype(words)
     width = values.shape[1] if values.ndim == 2 else 1
     raw = np.array([values.nbytes], dtype="<u8").tobytes() + np.ascontiguousarray(values).tobytes()
     head = f'<DataArray type="{kind}" Name={quoteattr(name)} NumberOfComponents="{width}" format="binary">'

@@ -241,7 +241,7 @@ def test_record_tells_the_groups(path, capsys):
 
 def decoded(array) -> np.ndarray:
     """The numbers of a binary DataArray, after the 8 bytes of their length."""
-    values = np.frombuffer(base64.b64decode(array.text)[8:], dtype={"Float64": "<f8", "Int64": "<i8"}[array.get("type")])
+    values = np.frombuffer(base64.b64decode(array.text)[8:], dtype={"Float64": "<f8", "Int64": "<i8", "UInt64": "<u8"}[array.get("type")])
     width = int(array.get("NumberOfComponents"))
     return values.reshape(-1, width) if width > 1 else values
 
@@ -266,12 +266,14 @@ def test_vtp_is_welded_and_has_fields(path, tmp_path):
 
 def test_fields_whose_names_are_taken_are_carried_over(tmp_path):
     mesh = box(1, "tetra")
-    mesh.cell_data = {"area": [np.arange(6.0)], "flux": [np.arange(18.0).reshape(6, 3)], "<&>": [np.arange(6)]}
+    none = np.uint64(2**64 - 1)
+    mesh.cell_data = {"area": [np.arange(6.0)], "flux": [np.arange(18.0).reshape(6, 3)], "<&>": [np.arange(6)], "none": [np.full(6, none)]}
     cut = cicelybeam.cut_plane(mesh, (0, 0, 0.3), (0, 0, 1))
     cut.write(tmp_path / "a.vtp")
     data = parts(tmp_path / "a.vtp")["CellData"]
     assert data["area"].sum() == pytest.approx(1) and (data["mesh:area"] == cut.polygon_cell).all()
     assert (data["flux"][:, 2] == 3 * cut.polygon_cell + 2).all() and (data["<&>"] == cut.polygon_cell).all()
+    assert (data["none"] == none).all() and len(data["none"]) == len(cut)
 
 
 def test_vtp_has_undrawn_edges(tmp_path):
@@ -411,6 +413,7 @@ def test_any_outputs_of_any_cut(tmp_path_factory, data):
     given += ["--picture", folder / pick("a.svg", "a.png", "a.pdf", "a.eps"), "--dpi", 50, "--size", pick("85", "60,120", "30,30")]
     if command == "plane":
         given += ["--vtk", folder / pick("b.vtp", "b.vtu", "b.vtk", "b.ply", "b.obj"), "--table", folder / "t.csv", "--tolerance", pick("0", "1e-9", "0.1")]
+        given += ["--traces", folder / pick("c.csv", "c.vtp"), "--show", pick("polygons", "traces")]
     said = io.StringIO()
     with contextlib.redirect_stderr(said), contextlib.redirect_stdout(said), warnings.catch_warnings():
         warnings.simplefilter("error")

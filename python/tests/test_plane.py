@@ -9,6 +9,7 @@ from hypothesis import strategies as st
 import cicelybeam
 from cicelybeam import place
 from cicelybeam.library import Section, library
+from cicelybeam.undrawn import findings
 
 small = st.floats(-1, 1, allow_nan=False)
 vectors = st.tuples(small, small, small).filter(lambda v: np.linalg.norm(v) > 0.1)
@@ -168,6 +169,25 @@ def test_nan_coordinates():
     assert record.not_finite == [0] and not record.all_drawn
 
 
+def test_edges_of_cells_with_nan_are_not_said_to_bound_no_area():
+    """Whether they do is not known. The cell is marked at the mean of its other corners."""
+    mesh = box(2)
+    mesh.points[(mesh.points == [0.0, 0.5, 0.0]).all(axis=1)] = np.nan  # a corner of two cells, which the plane passes through
+    cut = cicelybeam.cut_plane(mesh, (0, 0, 0.25), (0, 0, 1))
+    record = cut.record
+    assert record.open == 4 and len(record.not_finite) == record.with_undrawn == 2 and not record.undrawn and not record.nothing_lost
+    assert "4 open edges in 2 cells are not drawn; " in record.sentence() and "bound no area" not in record.sentence()
+    assert np.isfinite([finding.near for finding in findings(cut)]).all() and len(findings(cut)) == 2
+
+
+def test_polyhedron_without_a_face():
+    """Faces of under three nodes are dropped, and here no other is left."""
+    mesh = meshio.Mesh(CUBE, [("polyhedron8", [[np.array([0, 1]), np.array([2])]])])
+    cut = cicelybeam.cut_plane(mesh, (0, 0, 0.5), (0, 0, 1))
+    assert (cut.record.area, cut.record.listed, len(cut.traces())) == (0, 0, 0)
+    assert cut.record.warnings == ["no cell that is cut has a face of three nodes or more: there is nothing that the plane could meet"]
+
+
 def with_unknown_cell(mesh: meshio.Mesh) -> cicelybeam.Mesh:
     """The mesh, with one cell that fills space and that the package does not know."""
     found = cicelybeam.of_meshio(mesh)
@@ -310,3 +330,16 @@ def test_plane_that_misses_the_mesh(cube):
     assert record.all_drawn and record.all_cut and record.extent == [[0, 0, 0], [1, 1, 1]]
     assert record.missed_by == 6 and record.warnings == [
         "the plane meets no cell that is cut: it misses the nearest corner by 6; the mesh extends over (0, 0, 0) to (1, 1, 1)"]
+
+
+def test_plane_through_a_corner_alone(cube):
+    record = cicelybeam.cut_plane(cube, (0, 0, 0), (1, 1, 1)).record
+    assert record.missed_by == 0 and record.warnings == ["the plane has no edge in any cell that is cut; the mesh extends over (0, 0, 0) to (1, 1, 1)"]
+
+
+@pytest.mark.parametrize("far,told", [(100.0, False), (1e6, True), (1e300, True)])
+def test_origin_far_away(cube, far, told):
+    """Coordinates in the plane, told from it, lose digits; those in space and the area do not."""
+    cut = cicelybeam.cut_plane(cube, (far, 0, 0.5), (0, 0, 1))
+    assert cut.record.area == 1 and sorted(map(tuple, cut.in_space().tolist())) == [(0, 0, 0.5), (0, 1, 0.5), (1, 0, 0.5), (1, 1, 0.5)]
+    assert any("the origin is so far from the mesh" in warning for warning in cut.record.warnings) == told

@@ -1,7 +1,7 @@
-//! Holds gathering against mefikit's Rust and the rules' refusals, and gathering, then stitching, against the plane
-//! cut. The number is that of cells in each.
+//! Holds gathering against mefikit's Rust and the rules' refusals, and on the same cells gathering, then stitching,
+//! against the plane cut. The number is that of cells.
 
-use compare::cutting::{compare, compare_refusals};
+use compare::cutting::compare_refusals;
 use compare::entries::{ours, Entry};
 use compare::{cases_asked, gathering, refused_by};
 use std::process::ExitCode;
@@ -17,7 +17,7 @@ fn main() -> ExitCode {
     let start = Instant::now();
     let line = |words: String| println!("           {words}");
     println!("segments gathered, with the bits of the rules, NaN alike, and alike to the Rust's:");
-    let reached = compare(Entry::Gather, cases, ours);
+    let reached = gathering::compare_with_rust(cases, ours);
     reached.found.print("space cells gathered", "give some");
     line(format!("answered, by type: {}", reached.answered.told()));
     line(format!("give some, by type: {}", reached.giving.told()));

@@ -35,7 +35,8 @@ fn main() {
             let case = case(&coords, nodes, &origin, &normal, tol);
             if crosses(&case) {
                 crossed += 1;
-                for (count, listed) in unseen.iter_mut().zip([listed(&case), rust_segments(&case)]) {
+                for (count, listed) in unseen.iter_mut().zip([listed(&case), rust_segments(&case)])
+                {
                     *count += usize::from(listed == 0);
                 }
             }

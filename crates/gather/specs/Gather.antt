@@ -48,7 +48,8 @@ GatherBounded =
 
 -- ---- the plane cut is gathering and then stitching
 
--- Stitching alone takes what was gathered: it refuses it with 7 alone, where a buffer is shorter than so many segments ask for.
+-- Stitching alone takes what was gathered, and gives its section; it refuses it with 7 only, where a buffer is shorter than so many segments ask
+-- for.
 abbrev pub StitchGathered : Type 0
 StitchGathered =
     (k : Cell) (g : Through) (tol : Float) (a : ℕ) (ss : List Seg) → gather_cut k g tol a ≡ found ss → (l : Lengths) → let s = length ss in
@@ -93,7 +94,7 @@ gather_each g tol a [] = found []
 gather_each g tol a (k ∷ ks) = and_then (gather_cut k g tol a) (λ ss. and_then (gather_each g tol a ks) (λ rest. found (ss ++ rest)))
 
 -- The segments of a cell are those of its faces, each handed over alone in a buffer of the same length, in their order. The coordinates are
--- as many as a slice can have, so that no node is a separator.
+-- at most as many as a slice can have, so that no node is a separator.
 abbrev pub FaceByFace : Type 0
 FaceByFace =
     (k : Cell) (g : Through) (tol : Float) (a : ℕ) (ss : List Seg) → length k.coords ≤ separator → gather_cut k g tol a ≡ found ss

@@ -1,5 +1,5 @@
--- The starred cases of docs/RULES.md as one table: what is asked, and what the paper answers. Definitions only; that the definitions give
--- these answers is `worked`, in proofs/Table.antt.
+-- The starred cases of docs/RULES.md as one table: what is asked, and what is answered there. Definitions only; that the definitions of the
+-- crates answer so is `worked`, in proofs/Table.antt.
 use Rattle.std.specs.Prelude.{◌≡◌, true, false, cond, ℕ, ◌/◌, pos, negsuc, length, Float}
 use mathlib.Core.List.{List, [], ◌∷◌, flatten, map}
 use Rattle.std.specs.Float.{nan, fin, binary64}
@@ -12,7 +12,8 @@ use Rattle.rows.specs.Outcome.{Outcome, refused, found}
 use Rattle.vector.specs.Tolerance.{tolerance, tolerance_of}
 use Rattle.cell.specs.Types.{space_type}
 use Rattle.cell.specs.Faces.{Face, faces_of, kept, separator, stretches}
-use Rattle.cell.specs.Read.{are_rows, cell, read_as}
+use Rattle.cell.specs.Read.{Cell, are_rows, cell, numbered_in_space, read_as}
+use Rattle.cell.specs.Claims.{faces_as}
 use Rattle.cell.specs.declared.types.Shape.TheVariants.{Phed}
 use Rattle.clip.specs.Clip.{plane_section_segments}
 use Rattle.weld.specs.Weld.{becomes, edges_from, listed_edges, points_from, welded_points}
@@ -21,7 +22,7 @@ use Rattle.stitch.specs.Stitch.{Answer, area2_from, f2, signed_area, stitched_wi
 use Rattle.stitch.specs.Entry.{stitch_alone}
 use Rattle.cuts.specs.Cuts.{through}
 use Rattle.plane_cut.specs.PlaneCut.{plane_cut}
-use Rattle.gather.specs.Gather.{gather_cut}
+use Rattle.gather.specs.Gather.{face_alone, gather_cut}
 
 -- ---- what is asked, and how it is answered
 
@@ -30,7 +31,7 @@ pub data Asked : Type 0 where
   faces : List ℕ → Asked
   -- the plane cut with tolerance 0 of a cell of a type, by its connectivity and coordinates, by a plane's origin and normal
   plane : ℕ → List ℕ → List Float → List Float → List Float → Asked
-  -- gathering, of the same
+  -- gathering of the same, and of each face handed over alone
   gather : ℕ → List ℕ → List Float → List Float → List Float → Asked
   -- stitching alone, with a tolerance
   stitch : List Float → Float → Asked
@@ -40,17 +41,18 @@ pub data Asked : Type 0 where
   root : Float → Asked
 
 -- a walk by its nodes, and its area where it is closed
-pub data Walked : Type 0 where
-  closed : List ℕ → Float → Walked
-  unclosed : List ℕ → Walked
+pub data Shown : Type 0 where
+  closed : List ℕ → Float → Shown
+  unclosed : List ℕ → Shown
 
 pub data Answered : Type 0 where
   positions : List Face → Answered
   -- a section, and the areas of its loops
   sectioned : Outcome Answer → List Float → Answered
-  segments : Outcome (List Seg) → Answered
+  -- the segments of a cell, and those of each of its faces
+  segments : Outcome (List Seg) → List (Outcome (List Seg)) → Answered
   -- a section, and all walks
-  stitched : Outcome Answer → List Walked → Answered
+  stitched : Outcome Answer → List Shown → Answered
   number : Outcome Float → Answered
 
 abbrev pub areas : Outcome Answer → List Float
@@ -58,25 +60,28 @@ areas (refused k) = []
 areas (found a) = map (signed_area a.points) a.loops
 
 -- a walk over welded points
-abbrev pub walked : List Vector → Walk → Walked
-walked ps w = cond w.closed (closed w.nodes (signed_area ps w.nodes)) (unclosed w.nodes)
+abbrev pub shown : List Vector → Walk → Shown
+shown ps w = cond w.closed (closed w.nodes (signed_area ps w.nodes)) (unclosed w.nodes)
 
-abbrev pub all_walked : List Float → Float → List Walked
-all_walked xs tol =
+abbrev pub all_shown : List Float → Float → List Shown
+all_shown xs tol =
     let t = mul binary64 tol tol in
     let ss = segs 2 (length xs / 4) xs in
     let ps = welded_points t ss in
-    map (walked ps) (walks ps (listed_edges t ss))
+    map (shown ps) (walks ps (listed_edges t ss))
 
 -- by the definitions, in buffers of the sizes that docs/RULES.md gives for 24 face corners, or for the segments
 unfoldable pub answered : Asked → Answered
 unfolding flatten stretches kept space_type read_as are_rows least_aligned_axis unit dot_from tolerance plane_section_segments mul stitched_within points_from becomes edges_from walks_from area2_from
 answered (faces c) = positions (faces_of Phed c)
 answered (plane t c xs o n) = let r = plane_cut (cell t c xs) (through o n) f0 (record { numbers = 144; nodes = 36; ends = 12 }) in sectioned r (areas r)
-answered (gather t c xs o n) = segments (gather_cut (cell t c xs) (through o n) f0 144)
+answered (gather t c xs o n) =
+    let k = cell t c xs in
+    let gathered : Cell → Outcome (List Seg) = λ k. gather_cut k (through o n) f0 144 in
+    segments (gathered k) (map (λ f. gathered (face_alone k f)) (faces_as (numbered_in_space t) c))
 answered (stitch xs tol) =
     let s = length xs / 4 in
-    stitched (stitch_alone xs tol (record { numbers = length xs; nodes = s; ends = s / 3 })) (all_walked xs tol)
+    stitched (stitch_alone xs tol (record { numbers = length xs; nodes = s; ends = s / 3 })) (all_shown xs tol)
 answered (tolerance_in xs) = number (tolerance_of 3 xs)
 answered (root x) = number (found (sqrt_of binary64 x))
 
@@ -141,6 +146,10 @@ triangle = O ∷ pt f0 f1 ∷ pt f1 f0 ∷ O ∷ []
 abbrev bow_tie : List Vector
 bow_tie = pt minus_two f1 ∷ O ∷ pt f2 f1 ∷ pt f2 minus_one ∷ O ∷ pt minus_two minus_one ∷ pt minus_two f1 ∷ []
 
+-- the sides of the unit square, as the faces of the brick give them
+abbrev sides : List Seg
+sides = seg O (pt f1 f0) ∷ seg (pt f1 f1) (pt f0 f1) ∷ seg (pt f1 f0) (pt f1 f1) ∷ seg (pt f0 f1) O ∷ []
+
 abbrev pub table : List Case
 table =
     -- 1
@@ -177,9 +186,9 @@ table =
     ∷ case (root (fin false 1 (negsuc 1073))) (number (found (fin false 1 (negsuc 536))))
     -- 15
     ∷ case (gather 14 brick cube (level half) up)
-    (segments (found (seg O (pt f1 f0) ∷ seg (pt f1 f1) (pt f0 f1) ∷ seg (pt f1 f0) (pt f1 f1) ∷ seg (pt f0 f1) O ∷ [])))
+    (segments (found sides) (map found ([] ∷ [] ∷ map (λ s. s ∷ []) sides)))
     ∷ []
 
--- the definitions answer each case as the paper does
+-- the definitions answer each case as docs/RULES.md does
 abbrev pub Worked : Type 0
 Worked = map (λ c. answered c.asked) table ≡ map (λ c. c.right) table

@@ -28,22 +28,6 @@ fn main() {
     gathered();
 }
 
-fn gathered() {
-    heading("15. * Brick at z = 0.5, gathered: (0,0)-(1,0), (1,1)-(0,1), (1,0)-(1,1), (0,1)-(0,0), one on each face from the third on.");
-    let sides = [
-        [[0.0, 0.0], [1.0, 0.0]],
-        [[1.0, 1.0], [0.0, 1.0]],
-        [[1.0, 0.0], [1.0, 1.0]],
-        [[0.0, 1.0], [0.0, 0.0]],
-    ];
-    let found =
-        BUILDS.map(|build| plane_segments(build, hex(), &[0.0, 0.0, 0.5], &UP, 0.0).unwrap());
-    for segment in &found[0] {
-        println!("   {}", pairs(segment));
-    }
-    verdict(found.iter().all(|segments| segments == &sides));
-}
-
 fn faces_of_phed() {
     heading("1. * PHED 0 1 2 MAX 3 4 MAX 5 6 7: faces at positions 0 1 2 and 7 8 9.");
     let found = faces(18, &[0, 1, 2, MAX, 3, 4, MAX, 5, 6, 7]).unwrap();
@@ -217,6 +201,31 @@ fn limits() {
         );
     }
     println!("   no counterpart: the Rust has neither limit and takes all four");
+}
+
+fn gathered() {
+    heading("15. * Brick at z = 0.5, gathered: (0,0)-(1,0), (1,1)-(0,1), (1,0)-(1,1), (0,1)-(0,0), one on each face from the third on.");
+    let sides = [
+        vec![],
+        vec![],
+        vec![[[0.0, 0.0], [1.0, 0.0]]],
+        vec![[[1.0, 1.0], [0.0, 1.0]]],
+        vec![[[1.0, 0.0], [1.0, 1.0]]],
+        vec![[[0.0, 1.0], [0.0, 0.0]]],
+    ];
+    let gather =
+        |cell| BUILDS.map(|build| plane_segments(build, cell, &[0.0, 0.0, 0.5], &UP, 0.0).unwrap());
+    let mut agrees = gather(hex()) == [(); 3].map(|()| sides.concat());
+    for (face, side) in faces(14, hex().nodes).unwrap().iter().zip(&sides) {
+        let alone = gather(Cell {
+            number: 18,
+            nodes: face,
+            coords: &BRICK,
+        });
+        println!("   face {}: {}", words(face), pairs(&alone[0].concat()));
+        agrees &= alone.iter().all(|segments| segments == side);
+    }
+    verdict(agrees);
 }
 
 fn hex() -> Cell<'static> {
