@@ -399,8 +399,9 @@ def _warnings(record: PlaneRecord, mesh: Mesh) -> list[str]:
 
 def _far_away(record: PlaneRecord, cut: PlaneCut) -> list[str]:
     """A warning where coordinates in the plane, told from its origin, are rounded to steps above the tolerance."""
-    step = float(np.spacing(np.abs(cut.offset).max()))
-    if not record.with_edges or not step > max(record.tolerance, record.mesh_tolerance):
+    step = float(np.spacing(np.abs(cut.offset).max()))  # NaN where they overflow
+    if not record.with_edges or step <= max(record.tolerance, record.mesh_tolerance):
         return []
-    return [f"the origin is so far from the mesh that coordinates in the plane, u and v from the origin, are rounded to steps of {step:.2g}; "
+    told = f"rounded to steps of {step:.2g}" if step < math.inf else "too large for numbers"
+    return [f"the origin is so far from the mesh that coordinates in the plane, u and v from the origin, are {told}; "
             "areas and coordinates in space are not: give a point of the plane that is nearer"]

@@ -342,4 +342,10 @@ def test_origin_far_away(cube, far, told):
     """Coordinates in the plane, told from it, lose digits; those in space and the area do not."""
     cut = cicelybeam.cut_plane(cube, (far, 0, 0.5), (0, 0, 1))
     assert cut.record.area == 1 and sorted(map(tuple, cut.in_space().tolist())) == [(0, 0, 0.5), (0, 1, 0.5), (1, 0, 0.5), (1, 1, 0.5)]
-    assert any("the origin is so far from the mesh" in warning for warning in cut.record.warnings) == told
+    assert any("so far from the mesh" in warning and "rounded to steps of" in warning for warning in cut.record.warnings) == told
+
+
+def test_origin_from_which_coordinates_overflow(cube):
+    cut = cicelybeam.cut_plane(cube, (1.7e308, -1.7e308, 0.5), (1, 1, 1))
+    assert cut.record.area == pytest.approx(3**0.5 / 8) and np.isfinite(cut.in_space()).all() and not np.isfinite(cut.points).all()
+    assert ["so far from the mesh" in warning and "too large for numbers" in warning for warning in cut.record.warnings] == [True]
