@@ -51,7 +51,7 @@ kept_short : (f : Face) (fs : List Face) → length f < 3 → kept (f ∷ fs) �
 unfolding kept
 kept_short f fs h = simp (lt-ltb _ _ h)
 
-kept_long : (f : Face) (fs : List Face) → 3 ≤ length f → kept (f ∷ fs) ≡ f ∷ kept fs
+pub kept_long : (f : Face) (fs : List Face) → 3 ≤ length f → kept (f ∷ fs) ≡ f ∷ kept fs
 unfolding kept
 kept_long f fs h = simp (le-ltb _ _ h)
 

@@ -9,15 +9,14 @@ use Rattle.vector.specs.declared.Plane.{Plane}
 use Rattle.vector.specs.Rows.{ends_from, over}
 use Rattle.cell.specs.Read.{Polygon, Cell, space_cell, polygons_of, corners_of, Accepted, Copied}
 use Rattle.cell.specs.declared.Kept.{Kept}
-use Rattle.clip.specs.Cell.{at_most, cut_by, faces_of}
+use Rattle.clip.specs.Cell.{at_most, faces_of}
 use Rattle.clip.specs.Code.{Fit, Segments}
-use Rattle.clip.proofs.Bound.{cell_bound}
 use Rattle.clip.proofs.Written.{segments_count}
 use Rattle.vector.proofs.Slices.{slice_count}
 use Rattle.stitch.specs.Code.{Stitchable}
 use Rattle.cuts.specs.Cuts.{segments_on}
 use Rattle.cuts.specs.Code.{CellFits, CellWithin, Roomy}
-use Rattle.cuts.proofs.Sizes.{any_within, copied_back, copied_fit, corners_in_all}
+use Rattle.cuts.proofs.Sizes.{any_within, copied_back, copied_fit, segments_most}
 
 -- ---- what was copied, as its reader takes it
 
@@ -68,9 +67,7 @@ pub few : (k : Cell) {m : ℕ} {segments out : List Float} {s : ℕ} (f : Plane)
 few k {s = s} f tol a e g =
     let ps = polygons_of (space_cell k) in
     let n : s ≡ length (segments_on f tol ps) = segments_count g in
-    let b = cell_bound (cut_by f tol) f ps in
-    let c = corners_in_all ps in
-    (omega arith, omega (arith, (any_within k a).corners))
+    (omega (arith, segments_most f tol ps), omega (arith, (any_within k a).corners))
 
 -- they are there, and the buffers have room for what stitching them gives
 pub lent : (k : Cell) {m : ℕ} {numbers : List Float} {nodes ends : List ℕ} {segments out : List Float} {s : ℕ} (l : Plane) (tol : Float)

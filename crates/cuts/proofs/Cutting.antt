@@ -1,4 +1,5 @@
 -- The cut of a cell that was tested, by how far its entry came; what a cut can answer; and that only the corners matter. Assumes nothing.
+use Rattle.std.specs.Prelude.{Some}
 use mathlib.Core.Path.{◌≡◌, refl, sym, ap, ◌∙◌, subst}
 use mathlib.Core.List.{List, flatten}
 use mathlib.Core.Bool.{Bool, true, false}
@@ -9,11 +10,14 @@ use lib.Ieee.{Float}
 use lib.ListN.{length}
 use Rattle.rows.specs.Outcome.{Outcome, refused, found, and_then, unless, Sound}
 use Rattle.rows.proofs.Outcomes.{sound_then}
-use Rattle.cell.specs.Types.{allow}
+use Rattle.vector.specs.declared.Plane.{Plane}
+use Rattle.cell.specs.Types.{allow, space_type}
 use Rattle.cell.specs.Read.{Polygon, Typed, untyped, typed, are_rows, polygons, read_as, polygons_of, corners_of, Accepted}
-use Rattle.cell.specs.Read.{Cell, cell_of, space_cell}
+use Rattle.cell.specs.Read.{Cell, cell_of, space_cell, typed_in_space}
 use Rattle.cell.specs.declared.accepted.SpaceCell.{SpaceCell}
-use Rattle.cuts.specs.Cuts.{cut_cell}
+use Rattle.cuts.specs.Cuts.{Through, cut_cell, frame_by, place_in}
+use Rattle.cuts.specs.declared.Way.{Way}
+use Rattle.cuts.proofs.Placed.{place_sound}
 use Rattle.cuts.proofs.Sizes.{any_within}
 
 -- ---- the steps of an entry
@@ -71,3 +75,12 @@ pub cut_sound : {A B : Type 0} (P : A → Type 0) (Q : B → Type 0) (w : ℕ) (
 cut_sound P Q w k c xs by work h f =
     sound_then 1 7 (λ ps. read_as w k c xs ≡ found ps) P (read_as w k c xs) (λ ps. and_then by (work (length (flatten ps)) ps))
     (sound_reading w k c xs) (λ ps r. sound_then 1 7 Q P by (work (length (flatten ps)) ps) h (f ps r))
+
+-- a cell in space, cut by a normal or along a direction
+pub space_cut_sound : {A : Type 0} (P : A → Type 0) (k : Cell) (way : Way) (g : Through) (work : ℕ → List Polygon → Plane → Outcome A)
+    → ((ps : List Polygon) → space_cell k ≡ found ps → (f : Plane) → frame_by way g.origin g.vector ≡ Some f
+    → Sound 1 7 P (work (length (flatten ps)) ps f))
+    → Sound 1 7 P (cut_cell (space_cell k) (place_in way g) work)
+space_cut_sound P k way g work =
+    cut_sound P (λ f. frame_by way g.origin g.vector ≡ Some f) 3 (typed_in_space (space_type k.cell_type)) k.conn k.coords (place_in way g) work
+    (place_sound way g)

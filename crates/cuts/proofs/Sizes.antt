@@ -13,6 +13,7 @@ use lib.ListN.{length, get_or, take, drop, length-append}
 use lib.Seq.{drop-drop, take_at, drop_at}
 use Rattle.rows.specs.Outcome.{found}
 use Rattle.rows.proofs.Lists.{ends_taken, flatten_append, flatten_map}
+use Rattle.vector.specs.declared.Plane.{Plane}
 use Rattle.vector.specs.Rows.{rows, ends_from, over}
 use Rattle.cell.specs.Types.{shape_of, space_type}
 use Rattle.cell.specs.Claims.{CornersKept}
@@ -27,10 +28,12 @@ use Rattle.cell.proofs.Answers.{Passed, space_read, polygons_size}
 use Rattle.cell.proofs.Told.{space_passed}
 use Rattle.cell.proofs.Bounds.{phed_few, space_bounds}
 use Rattle.cell.specs.declared.types.Nodes.{Nodes}
-use Rattle.clip.specs.Cell.{at_most, corners, faces_from, faces_of}
+use Rattle.clip.specs.Cell.{at_most, corners, cut_by, faces_from, faces_of}
 use Rattle.clip.specs.Code.{Fit}
+use Rattle.clip.proofs.Bound.{cell_bound}
 use Rattle.walk.specs.Walk.{All}
 use Rattle.cuts.specs.Code.{EachAtMost, Within, CellWithin}
+use Rattle.cuts.specs.Cuts.{segments_on}
 
 -- ---- a property of everything in a list
 
@@ -39,7 +42,7 @@ module _ {A : Type 0} (P : A → Type 0) where
   all_append [] m h = (tt, h)
   all_append (x ∷ l) m h = let r = all_append l m h.1 in ((h.0, r.0), r.1)
 
-  all_join : (l m : List A) → All P l → All P m → All P (l ++ m)
+  pub all_join : (l m : List A) → All P l → All P m → All P (l ++ m)
   all_join [] m h g = g
   all_join (x ∷ l) m h g = (h.0, all_join l m h.1 g)
 
@@ -139,6 +142,10 @@ unfolding flatten
 corners_in_all [] = refl
 corners_in_all (p ∷ ps) = omega (arith, corners_in_all ps, length-append p (flatten ps))
 
+-- so many segments a cell has at most on a plane
+pub segments_most : (f : Plane) (tol : Float) (ps : List Polygon) → length (segments_on f tol ps) ≤ at_most (length (flatten ps))
+segments_most f tol ps = omega (arith, cell_bound (cut_by f tol) f ps, corners_in_all ps)
+
 -- a polygon has no more corners than all of them
 each_in_all : (n : ℕ) (ps : List Polygon) → length (flatten ps) ≤ n → EachAtMost n ps
 unfolding flatten
@@ -197,6 +204,9 @@ pub any_within : (k : Cell) → Accepted (space_cell k) → CellWithin 256 85 25
 any_within k a =
     let ps = polygons_of (space_cell k) in
     in_all 256 85 ps (found_few k ps a) (space_bounds k ps (space_read k ps a)).faces (omega arith)
+
+pub segments_few : (k : Cell) (ps : List Polygon) → space_cell k ≡ found ps → (f : Plane) (tol : Float) → length (segments_on f tol ps) ≤ 384
+segments_few k ps r f tol = omega (arith, segments_most f tol ps, found_few k ps r)
 
 -- by the type
 module _ (k : Cell) (a : Accepted (space_cell k)) (t : SpaceType) (e : space_type k.cell_type ≡ Some t) where

@@ -4,9 +4,10 @@ use mathlib.Core.List.{List, [], ◌∷◌, ◌++◌, append-nil, map, map-id, m
 use mathlib.Core.Bool.{Bool, true, false, cond, ◌&&◌}
 use Prim.Native.Nat.{ℕ, zero, suc, ◌*◌, ◌/◌, ◌%◌, ◌≤◌, ◌<◌}
 use native.Mathlib.Omega.{arith}
-use borrow.Author.Tests.{eqb-false, eqb-true, le-leb, le-ltb, leb-true, ltb-false, ne_eqb}
+use borrow.Author.Tests.{eqb-false, eqb-true, le-leb, leb-true, ltb-false, ne_eqb}
 use lib.Dec.{T, eqb, leb, ltb, ltb→lt}
 use lib.Ieee.{Float}
+use lib.Ieee.Bits.{is_true}
 use lib.Ieee.Fits.{and_i, and_l, and_r}
 use lib.ListN.{length, get_or, length-append, length-map}
 use Rattle.rows.specs.Rows.{row}
@@ -22,6 +23,7 @@ use Rattle.cell.specs.declared.types.Shape.{Shape}
 use Rattle.cell.specs.declared.types.Shape.TheVariants as H
 use Rattle.cell.proofs.Answers.{counts_right, polygons_size, space_read, wrong_coordinates}
 use Rattle.cell.proofs.Polygon.{length_from}
+use Rattle.cell.proofs.Polyhedron.{kept_long}
 use Rattle.clip.specs.Cell.{cut_by, face_segments}
 use Rattle.walk.specs.Walk.{All}
 use Rattle.cuts.specs.Cuts.{Through, cut_cell, place_in, segments_on}
@@ -38,10 +40,6 @@ one_stretch k (n ∷ ns) h =
     let r = stretches (suc k) ns in
     let d : eqb n separator ≡ false = ne_eqb n separator (λ e. omega (arith, h.0)) in
     ap (λ b. cond b ([] ∷ r) (onto k r)) d ∙ ap (onto k) (one_stretch (suc k) ns h.1)
-
-keep_one : (f : Face) → 3 ≤ length f → kept (f ∷ []) ≡ f ∷ []
-unfolding kept
-keep_one f h = ap (λ b. cond b [] (f ∷ [])) (le-ltb (length f) 3 h)
 
 -- ---- the positions of a list, in order, show its entries
 
@@ -74,10 +72,6 @@ below r l (n ∷ ns) h =
     let e : n < r = ltb→lt n r (and_l (ltb n r) (in_rows r ns) h) in
     (omega arith, below r l ns (and_r (ltb n r) (in_rows r ns) h))
 
-is_true : (b : Bool) → T b → b ≡ true
-is_true true h = refl
-is_true false h = absurd h
-
 -- ---- a face alone is read as one polygon
 
 module _ (k : Cell) (whole : length k.coords % 3 ≡ 0) (few : length k.coords ≤ separator) where
@@ -95,9 +89,10 @@ module _ (k : Cell) (whole : length k.coords % 3 ≡ 0) (few : length k.coords �
     among = subst T (rows_of k.conn row_count f) are
 
     one_face : kept (stretches 0 nodes) ≡ from 0 (length nodes) ∷ []
+    unfolding kept
     one_face =
         ap kept (one_stretch 0 nodes (below row_count (omega arith) nodes among))
-        ∙ keep_one (from 0 (length nodes)) (omega (arith, length_from 0 (length nodes), many))
+        ∙ kept_long (from 0 (length nodes)) [] (omega (arith, length_from 0 (length nodes), many))
 
     rows_there : are_rows nodes row_count (flatten (kept (stretches 0 nodes))) ≡ true
     unfolding flatten

@@ -1,5 +1,4 @@
 -- What gathering can answer: few segments, which fit the buffer; and that only the corners matter. Assumes nothing.
-use Rattle.std.specs.Prelude.{Some}
 use mathlib.Core.Path.{◌≡◌, refl, sym, ap}
 use mathlib.Core.List.{List, flatten}
 use Prim.Native.Nat.{ℕ, ◌*◌, ◌≤◌}
@@ -9,44 +8,36 @@ use lib.Ieee.{Float}
 use lib.ListN.{length}
 use Rattle.rows.specs.Outcome.{Outcome, refused, found, Sound}
 use Rattle.rows.proofs.Outcomes.{sound_unless}
-use Rattle.vector.specs.Vector.{plane_of}
 use Rattle.vector.specs.declared.Plane.{Plane}
 use Rattle.vector.specs.Rows.{Seg}
-use Rattle.cell.specs.Types.{space_type}
-use Rattle.cell.specs.Read.{Polygon, Cell, corners_of, space_cell, typed_in_space}
+use Rattle.cell.specs.Read.{Polygon, Cell, corners_of, space_cell}
 use Rattle.cell.proofs.Alike.{alike_in_space}
-use Rattle.clip.specs.Cell.{at_most, cut_by}
+use Rattle.clip.specs.Cell.{at_most}
 use Rattle.clip.specs.Code.{Segments}
-use Rattle.clip.proofs.Bound.{cell_bound}
 use Rattle.clip.proofs.Written.{segments_count}
 use Rattle.cuts.specs.Cuts.{Through, cut_cell, place_in, segments_on}
 use Rattle.cuts.specs.Lines.{told_line}
 use Rattle.cuts.specs.declared.Way.TheVariants.{Normal}
-use Rattle.cuts.proofs.Cutting.{cut_sound}
-use Rattle.cuts.proofs.Placed.{place_sound}
-use Rattle.cuts.proofs.Sizes.{corners_in_all, found_few}
+use Rattle.cuts.proofs.Cutting.{space_cut_sound}
+use Rattle.cuts.proofs.Sizes.{segments_few, segments_most}
 use Rattle.gather.specs.Gather.{AlikeGathered, GatherBounded, GatherSound, Gathered, gather_cut, gather_in}
 
 -- ---- how many
 
 module _ (f : Plane) (tol : Float) (ps : List Polygon) where
-  pub segments_bounded : length (segments_on f tol ps) ≤ at_most (length (flatten ps))
-  segments_bounded = omega (arith, cell_bound (cut_by f tol) f ps, corners_in_all ps)
-
-  -- so they fit the buffer
+  -- they fit the buffer
   pub segments_fit : {xs zs : List Float} {r : ℕ} → 6 * length (flatten ps) ≤ length xs → Segments 2 xs (segments_on f tol ps) r zs
       → 2 * (2 * r) ≤ length xs
   segments_fit {zs = zs} {r = r} room h =
       let e : r ≡ length (segments_on f tol ps) = segments_count h in
-      omega (arith, segments_bounded)
+      omega (arith, segments_most f tol ps)
 
 -- ---- what gathering can answer
 
 pub gather_sound : GatherSound
 gather_sound k g tol a =
     let P = Gathered k g tol in
-    cut_sound P (λ f. plane_of g.origin g.vector ≡ Some f) 3 (typed_in_space (space_type k.cell_type)) k.conn k.coords
-    (place_in Normal g) (gather_in tol a) (place_sound Normal g)
+    space_cut_sound P k Normal g (gather_in tol a)
     (λ ps r f e.
     let m : length (flatten ps) ≡ corners_of (space_cell k) = ap corners_of (sym r) in
     sound_unless 1 7 P 7 (leb (6 * length (flatten ps)) a) (found (segments_on f tol ps)) (omega arith) (omega arith)
@@ -57,8 +48,8 @@ gather_sound k g tol a =
       frame = f;
       frame_is = e;
       segments_are = refl;
-      bounded = omega (arith, segments_bounded f tol ps, m);
-      few = omega (arith, segments_bounded f tol ps, found_few k ps r);
+      bounded = omega (arith, segments_most f tol ps, m);
+      few = segments_few k ps r f tol;
     }))
 
 pub gather_few : (k : Cell) (g : Through) (tol : Float) (a : ℕ) → Sound 1 7 (λ ss. length ss ≤ 384) (gather_cut k g tol a)

@@ -24,10 +24,10 @@ use Rattle.stitch.proofs.Entries.{fits, of_answer}
 use Rattle.cuts.specs.Cuts.{Through, cut_cell, place_in, section_of, segments_on}
 use Rattle.cuts.specs.Lines.{ToldLine, told_line, segments_of, flat}
 use Rattle.cuts.specs.declared.Way.TheVariants.{Normal}
-use Rattle.cuts.proofs.Sizes.{found_few}
+use Rattle.cuts.proofs.Sizes.{all_join, found_few, segments_most}
 use Rattle.plane_cut.specs.PlaneCut.{plane_cut, section_in}
 use Rattle.gather.specs.Gather.{Gathered, PlaneByGathering, ReadAlike, StitchGathered, gather_cut, gather_in}
-use Rattle.gather.proofs.Claims.{gather_sound, segments_bounded}
+use Rattle.gather.proofs.Claims.{gather_sound}
 
 -- ---- segments as numbers, read back
 
@@ -56,10 +56,6 @@ segs_flat w (seg a b ∷ ss) h =
     ∙ ap (λ l. seg a b ∷ pair_up (rows w (2 * length ss) l)) rest ∙ ap (λ l. seg a b ∷ l) (segs_flat w ss h.1)
 
 -- the segments of a cell have two numbers an end
-joined : {A : Type 0} (P : A → Type 0) (l m : List A) → All P l → All P m → All P (l ++ m)
-joined P [] m h g = g
-joined P (x ∷ l) m h g = (h.0, joined P l m h.1 g)
-
 projected : (f : Plane) (ss : List Seg) → All (Wide 2) (map (project_seg f) ss)
 projected f [] = tt
 projected f (seg a b ∷ ss) = ((refl, refl), projected f ss)
@@ -67,7 +63,7 @@ projected f (seg a b ∷ ss) = ((refl, refl), projected f ss)
 wide : (c : Cut) (f : Plane) (ps : List Polygon) → All (Wide 2) (cell_segments c f ps)
 wide c f [] = tt
 wide c f (p ∷ ps) =
-    joined (Wide 2) (map (project_seg f) (plane_section_segments c p)) (cell_segments c f ps) (projected f (plane_section_segments c p)) (wide c f ps)
+    all_join (Wide 2) (map (project_seg f) (plane_section_segments c p)) (cell_segments c f ps) (projected f (plane_section_segments c p)) (wide c f ps)
 
 -- ---- what stitching alone gives of them
 
@@ -108,7 +104,7 @@ module _ (tol : Float) (l : Lengths) where
   on_plane ps few f =
       let m = length (flatten ps) in
       let ss = segments_on f tol ps in
-      let s = segments_bounded f tol ps in
+      let s = segments_most f tol ps in
       steps (leb (6 * m) l.numbers) (leb (3 * m / 2) l.nodes && leb (m / 2) l.ends) ss (section_of f tol ps)
       (λ k. stitch_alone (flat k) tol l)
       (λ e.

@@ -1,6 +1,5 @@
 -- The line cut of a cell in space refuses with a number from 1 to 7 or gives few segments; only the corners matter. Assumes nothing.
-use Rattle.std.specs.Prelude.{Some}
-use mathlib.Core.Path.{◌≡◌, ap}
+use mathlib.Core.Path.{ap}
 use mathlib.Core.List.{List, flatten}
 use Prim.Native.Nat.{◌*◌, ◌≤◌}
 use native.Mathlib.Omega.{arith}
@@ -8,15 +7,11 @@ use lib.Dec.{leb}
 use lib.ListN.{length}
 use Rattle.rows.specs.Outcome.{found}
 use Rattle.rows.proofs.Outcomes.{sound_unless}
-use Rattle.vector.specs.Vector.{line_of}
 use Rattle.vector.specs.Rows.{Seg}
-use Rattle.cell.specs.Types.{space_type}
-use Rattle.cell.specs.Read.{typed_in_space}
 use Rattle.cell.proofs.Alike.{alike_in_space}
 use Rattle.cuts.specs.Cuts.{cut_cell, place_in, section_of}
 use Rattle.cuts.specs.declared.Way.TheVariants.{Direction}
-use Rattle.cuts.proofs.Cutting.{cut_sound}
-use Rattle.cuts.proofs.Placed.{place_sound}
+use Rattle.cuts.proofs.Cutting.{space_cut_sound}
 use Rattle.cuts.proofs.Sizes.{corners_in_all, found_few}
 use Rattle.line_cut.specs.LineCut.{AlikeByLine, LineSound, line_in, line_of_section}
 use Rattle.line_cut.proofs.Sections.{line_bound}
@@ -24,8 +19,7 @@ use Rattle.line_cut.proofs.Sections.{line_bound}
 pub line_sound : LineSound
 line_sound k g tol a =
     let P : List Seg → Type 0 = λ ss. length ss ≤ 576 in
-    cut_sound P (λ f. line_of g.origin g.vector ≡ Some f) 3 (typed_in_space (space_type k.cell_type)) k.conn k.coords
-    (place_in Direction g) (line_in tol a) (place_sound Direction g)
+    space_cut_sound P k Direction g (line_in tol a)
     (λ ps r f e.
     sound_unless 1 7 P 7 (leb (14 * length (flatten ps)) a) (found (line_of_section f tol (section_of f tol ps))) (omega arith) (omega arith)
     (λ _. omega (arith, line_bound f tol ps, corners_in_all ps, found_few k ps r)))

@@ -26,7 +26,7 @@ use Rattle.stitch.specs.declared.Stitched.{Stitched}
 use Rattle.stitch.proofs.Claim.{claim}
 use Rattle.stitch.proofs.Welded.{cut_ends}
 use Rattle.cuts.specs.Cuts.{section_of, segments_on}
-use Rattle.cuts.proofs.Sizes.{all_in_row, corners_in_all}
+use Rattle.cuts.proofs.Sizes.{all_in_row, corners_in_all, segments_most}
 use Rattle.line_cut.specs.LineCut.{line_of_section, loop_segments, loops_segments, segment_on_line}
 use Rattle.line_cut.specs.Code.{CanCutLoops, LineFits, Rising, on_line_of}
 use Rattle.line_cut.specs.LineCut.{LineBounded}
@@ -125,7 +125,7 @@ module _ (f : Plane) (tol : Float) (ps : List Polygon) {points points' : List Fl
   few_points =
       let ss = segments_on f tol ps in
       let n = (claim (rule_of tol) ss).few_points in
-      omega (arith, g.point_count, cell_bound (cut_by f tol) f ps, corners_in_all ps)
+      omega (arith, g.point_count, segments_most f tol ps)
 
   pub points_there : 6 * length (flatten ps) ≤ length points' → 2 * r.points ≤ length points'
   points_there h = omega (arith, few_points)
@@ -136,8 +136,7 @@ module _ (f : Plane) (tol : Float) (ps : List Polygon) {points points' : List Fl
   loops_ready few h l room =
       let ss = segments_on f tol ps in
       let a = stitched tol ss in
-      let b = cell_bound (cut_by f tol) f ps in
-      let all = corners_in_all ps in
+      let b = segments_most f tol ps in
       let nn = (claim (rule_of tol) ss).few_nodes in
       let x = h.for_polygon in
       let y = h.for_clipped in

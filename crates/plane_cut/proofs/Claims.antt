@@ -1,33 +1,26 @@
 -- The theorems about the plane cut. Assumes nothing.
-use Rattle.std.specs.Prelude.{Some}
-use mathlib.Core.Path.{◌≡◌, ap}
-use mathlib.Core.List.{List, flatten}
+use mathlib.Core.Path.{ap}
+use mathlib.Core.List.{flatten}
 use Prim.Native.Nat.{ℕ, ◌*◌, ◌/◌, ◌≤◌}
 use native.Mathlib.Omega.{arith}
-use lib.Ieee.{Float}
 use lib.ListN.{length}
 use Rattle.rows.specs.Outcome.{found}
 use Rattle.rows.proofs.Outcomes.{sound_unless}
-use Rattle.vector.specs.Vector.{plane_of}
-use Rattle.vector.specs.declared.Plane.{Plane}
-use Rattle.cell.specs.Types.{shape_of, space_type}
-use Rattle.cell.specs.Read.{Polygon, Cell, space_cell, typed_in_space}
+use Rattle.cell.specs.Types.{shape_of}
 use Rattle.cell.specs.Claims.{CornersKept}
 use Rattle.cell.specs.declared.types.Shape.{Shape}
 use Rattle.cell.specs.declared.types.Shape.TheVariants.{Tet, Wedge, Hex, Phed}
 use Rattle.cell.proofs.Alike.{alike_in_space}
 use Rattle.cell.proofs.Bounds.{space_bounded}
-use Rattle.clip.specs.Cell.{at_most, corners, cut_by}
-use Rattle.clip.proofs.Bound.{cell_bound}
+use Rattle.clip.specs.Cell.{at_most}
 use Rattle.stitch.specs.Stitch.{rule_of}
 use Rattle.stitch.specs.Entry.{lengths, room}
 use Rattle.stitch.proofs.Claim.{claim}
 use Rattle.stitch.proofs.Entries.{of_answer, small_answer, small_told}
 use Rattle.cuts.specs.Cuts.{cut_cell, place_in, section_of, segments_on}
 use Rattle.cuts.specs.declared.Way.TheVariants.{Normal}
-use Rattle.cuts.proofs.Cutting.{cut_sound}
-use Rattle.cuts.proofs.Placed.{place_sound}
-use Rattle.cuts.proofs.Sizes.{corners_in_all, found_few}
+use Rattle.cuts.proofs.Cutting.{space_cut_sound}
+use Rattle.cuts.proofs.Sizes.{segments_few, segments_most}
 use Rattle.plane_cut.specs.PlaneCut.{AlikeByPlane, PlaneClaim, PlaneSection, PlaneSmall, PlaneSound, SegmentsBounded}
 use Rattle.plane_cut.specs.PlaneCut.{most_segments, plane_cut, section_in}
 
@@ -42,12 +35,8 @@ within Phed m e = omega (arith, e)
 pub segments_bounded : SegmentsBounded
 segments_bounded k t ps e r f tol =
     let m = length (flatten ps) in
-    let b : length (segments_on f tol ps) ≤ at_most (corners ps) = cell_bound (cut_by f tol) f ps in
     let w : at_most m ≤ most_segments (shape_of t) = within (shape_of t) m (space_bounded k t ps e r).corners in
-    omega (arith, b, w, corners_in_all ps)
-
-few_of_cell : (k : Cell) (ps : List Polygon) → space_cell k ≡ found ps → (f : Plane) (tol : Float) → length (segments_on f tol ps) ≤ 384
-few_of_cell k ps r f tol = omega (arith, cell_bound (cut_by f tol) f ps, corners_in_all ps, found_few k ps r)
+    omega (arith, w, segments_most f tol ps)
 
 -- ---- only the corners matter
 
@@ -60,8 +49,7 @@ alike_by_plane k k' ps ps' r r' z g tol l =
 pub plane_sound : PlaneSound
 plane_sound k g tol l =
     let P = PlaneSection k g tol in
-    cut_sound P (λ f. plane_of g.origin g.vector ≡ Some f) 3 (typed_in_space (space_type k.cell_type)) k.conn k.coords
-    (place_in Normal g) (section_in tol l) (place_sound Normal g)
+    space_cut_sound P k Normal g (section_in tol l)
     (λ ps r f e.
     let m = length (flatten ps) in
     sound_unless 1 7 P 7 (room (6 * m) (3 * m / 2) (m / 2) l) (found (section_of f tol ps)) (omega arith) (omega arith)
@@ -71,7 +59,7 @@ plane_sound k g tol l =
       read_is = r;
       frame = f;
       frame_is = e;
-      few = few_of_cell k ps r f tol;
+      few = segments_few k ps r f tol;
       claim = claim (rule_of tol) (segments_on f tol ps);
     }))
 
