@@ -10,22 +10,27 @@ ghost use Rattle.vector.specs.Tolerance.{told_tolerance, tolerance_of};
 ghost use Rattle.cell.specs.Read.{cell};
 ghost use Rattle.stitch.specs.Entry.{Gave, Small, buffers, lengths, section_told, stitch_alone};
 ghost use Rattle.cuts.specs.Cuts.{through};
+ghost use Rattle.cuts.specs.Defaulted.{line_count, section_count, stitched_in, told_count};
 ghost use Rattle.cuts.specs.Lines.{GaveLine, line_told};
 ghost use Rattle.cuts.specs.declared.Way.TheVariants as way;
 ghost use Rattle.plane_cut.specs.PlaneCut.{plane_cut};
+ghost use Rattle.plane_cut.specs.Defaulted.{plane_defaulted};
 ghost use Rattle.line_cut.specs.LineCut.{line_cut};
+ghost use Rattle.line_cut.specs.Defaulted.{line_defaulted};
 ghost use Rattle.plane_cell.specs.PlaneCell.{plane_cell_cut};
+ghost use Rattle.plane_cell.specs.Defaulted.{plane_cell_defaulted};
 ghost use Rattle.gather.specs.Gather.{gather_cut};
+ghost use Rattle.gather.specs.Defaulted.{gather_defaulted};
 ghost use Rattle.cicelybeam.specs.Exports.{told_in, told_line_in, told_tolerance_in};
 
 use cell::Cell;
 use clip::Found;
-use cuts::{Through, Way};
+use cuts::{CellSection, Through, Way};
 use rows::Refusal;
 use stitch::Stitched;
 
-// struct cicelybeam_section: refusal 0, how many points, nodes and loops were written, and the four counts of edges; or the
-// number of a refusal, and 0 for all else. C's `open` is `opened` here, since `open` is a reserved word.
+// struct cicelybeam_section: refusal 0, how many points, nodes and loops were written, the four counts of edges, and how many crossings
+// were defaulted; or the number of a refusal, and 0 for all else. C's `open` is `opened` here, since `open` is a reserved word.
 #[repr(C)]
 #[derive(Clone, Copy, Default)]
 pub struct Section {
@@ -37,14 +42,17 @@ pub struct Section {
     pub in_loops: u32,
     pub flat: u32,
     pub opened: u32,
+    pub defaulted: u32,
 }
 
-// struct cicelybeam_line: refusal 0 and how many segments were written, or the number of a refusal and 0.
+// struct cicelybeam_line: refusal 0, how many segments were written, and how many crossings were defaulted; or the number of a refusal,
+// and 0 for both.
 #[repr(C)]
 #[derive(Clone, Copy, Default)]
 pub struct Line {
     pub refusal: u32,
     pub segments: u32,
+    pub defaulted: u32,
 }
 
 // struct cicelybeam_tolerance: refusal 0 and the tolerance, or the number of a refusal and 0.
@@ -85,7 +93,10 @@ pub fn cicelybeam_plane(
         (plane_cut (cell cell_type conn.now coords.now) (through origin.now normal.now) tol
         (lengths (buffers numbers.old nodes.old ends.old)))
         (told_in result) (buffers numbers.old nodes.old ends.old)
-        (buffers numbers.new nodes.new ends.new) }
+        (buffers numbers.new nodes.new ends.new)
+        × (result.defaulted
+        ≡ told_count (plane_defaulted (cell cell_type conn.now coords.now) (through origin.now normal.now) tol
+        (lengths (buffers numbers.old nodes.old ends.old)))) }
 {
     let cell = Cell {
         cell_type,
@@ -112,7 +123,9 @@ pub fn cicelybeam_gather(
     ensures { GaveLine
         (gather_cut (cell cell_type conn.now coords.now)
         (through origin.now normal.now) tol (length numbers.old))
-        (told_line_in result) numbers.old numbers.new }
+        (told_line_in result) numbers.old numbers.new
+        × (result.defaulted
+        ≡ told_count (gather_defaulted (cell cell_type conn.now coords.now) (through origin.now normal.now) tol (length numbers.old))) }
 {
     let cell = Cell {
         cell_type,
@@ -139,7 +152,9 @@ pub fn cicelybeam_line_in_space(
     ensures { GaveLine
         (line_cut (cell cell_type conn.now coords.now)
         (through origin.now direction.now) tol (length numbers.old))
-        (told_line_in result) numbers.old numbers.new }
+        (told_line_in result) numbers.old numbers.new
+        × (result.defaulted
+        ≡ told_count (line_defaulted (cell cell_type conn.now coords.now) (through origin.now direction.now) tol (length numbers.old))) }
 {
     let cell = Cell {
         cell_type,
@@ -166,7 +181,10 @@ pub fn cicelybeam_plane_cell_by_normal(
     ensures { GaveLine
         (plane_cell_cut way.Normal (cell cell_type conn.now coords.now)
         (through origin.now normal.now) tol (length numbers.old))
-        (told_line_in result) numbers.old numbers.new }
+        (told_line_in result) numbers.old numbers.new
+        × (result.defaulted
+        ≡ told_count (plane_cell_defaulted way.Normal (cell cell_type conn.now coords.now) (through origin.now normal.now) tol
+        (length numbers.old))) }
 {
     let cell = Cell {
         cell_type,
@@ -193,7 +211,10 @@ pub fn cicelybeam_plane_cell_by_direction(
     ensures { GaveLine
         (plane_cell_cut way.Direction (cell cell_type conn.now coords.now)
         (through origin.now direction.now) tol (length numbers.old))
-        (told_line_in result) numbers.old numbers.new }
+        (told_line_in result) numbers.old numbers.new
+        × (result.defaulted
+        ≡ told_count (plane_cell_defaulted way.Direction (cell cell_type conn.now coords.now) (through origin.now direction.now) tol
+        (length numbers.old))) }
 {
     let cell = Cell {
         cell_type,
@@ -207,7 +228,7 @@ pub fn cicelybeam_plane_cell_by_direction(
     told_line(plane_cell::slice_2d(Way::Direction, &cell, &through, tol, numbers))
 }
 
-// Stitching alone.
+// Stitching alone, which computes no crossing.
 pub fn cicelybeam_stitch(
     segments: &[f64],
     tol: f64,
@@ -219,9 +240,12 @@ pub fn cicelybeam_stitch(
         (stitch_alone segments.now tol
         (lengths (buffers numbers.old nodes.old ends.old)))
         (told_in result) (buffers numbers.old nodes.old ends.old)
-        (buffers numbers.new nodes.new ends.new) }
+        (buffers numbers.new nodes.new ends.new)
+        × (result.defaulted ≡ 0) }
 {
-    told_section(stitch::alone::stitch_alone(segments, tol, numbers, nodes, ends))
+    told_section(without_crossings(stitch::alone::stitch_alone(
+        segments, tol, numbers, nodes, ends,
+    )))
 }
 
 // The tolerance of a mesh in space, by its coordinates.
@@ -245,13 +269,23 @@ pub fn cicelybeam_sqrt(x: f64) -> f64
     root::sqrt(x)
 }
 
+// What was stitched alone, as a section of which no crossing was computed.
+fn without_crossings(answer: Result<Stitched, Refusal>) -> Result<CellSection, Refusal>
+    ensures { (stitched_in result ≡ answer) × (section_count result ≡ 0) }
+{
+    Ok(CellSection {
+        stitched: answer?,
+        defaulted: 0,
+    })
+}
+
 // An answer as a C struct. `From` asks nothing, and this asks that the numbers fit 32 bits.
-fn told_section(answer: Result<Stitched, Refusal>) -> Section
-    requires { Small (section_told answer) }
-    ensures { told_in result ≡ section_told answer }
+fn told_section(answer: Result<CellSection, Refusal>) -> Section
+    requires { Small (section_told (stitched_in answer)) × (section_count answer < 4294967296) }
+    ensures { (told_in result ≡ section_told (stitched_in answer)) × (result.defaulted ≡ section_count answer) }
 {
     match answer {
-        Ok(stitched) => told_stitched(stitched),
+        Ok(section) => told_cell_section(section),
         Err(refusal) => Section {
             refusal: u32::from(refusal),
             ..Section::default()
@@ -260,10 +294,11 @@ fn told_section(answer: Result<Stitched, Refusal>) -> Section
 }
 
 // A section's numbers in 32 bits, which it asks as well.
-fn told_stitched(s: Stitched) -> Section
-    requires { Small (record { refusal = 0; answer = s }) }
-    ensures { told_in result ≡ record { refusal = 0; answer = s } }
+fn told_cell_section(section: CellSection) -> Section
+    requires { Small (record { refusal = 0; answer = section.stitched }) × (section.defaulted < 4294967296) }
+    ensures { (told_in result ≡ record { refusal = 0; answer = section.stitched }) × (result.defaulted ≡ section.defaulted) }
 {
+    let s = section.stitched;
     Section {
         refusal: 0,
         points: s.points as u32,
@@ -273,18 +308,20 @@ fn told_stitched(s: Stitched) -> Section
         in_loops: s.counts.in_loops as u32,
         flat: s.counts.flat as u32,
         opened: s.counts.opened as u32,
+        defaulted: section.defaulted as u32,
     }
 }
 
-// A line section as a C struct. No `From` either: it asks that the number fits.
+// A line section as a C struct. No `From` either: it asks that the numbers fit.
 fn told_line(answer: Result<Found, Refusal>) -> Line
-    requires { (line_told answer).segments < 4294967296 }
-    ensures { told_line_in result ≡ line_told answer }
+    requires { ((line_told answer).segments < 4294967296) × (line_count answer < 4294967296) }
+    ensures { (told_line_in result ≡ line_told answer) × (result.defaulted ≡ line_count answer) }
 {
     match answer {
         Ok(found) => Line {
             refusal: 0,
             segments: found.segments as u32,
+            defaulted: found.defaulted as u32,
         },
         Err(refusal) => Line {
             refusal: u32::from(refusal),

@@ -9,12 +9,17 @@ ghost use Rattle.vector.specs.Tolerance.{told_tolerance, tolerance_of};
 ghost use Rattle.cell.specs.Read.{cell};
 ghost use Rattle.stitch.specs.Entry.{Gave, buffers, lengths, stitch_alone};
 ghost use Rattle.cuts.specs.Cuts.{through};
+ghost use Rattle.cuts.specs.Defaulted.{told_count};
 ghost use Rattle.cuts.specs.Lines.{GaveLine};
 ghost use Rattle.cuts.specs.declared.Way.TheVariants as way;
 ghost use Rattle.plane_cut.specs.PlaneCut.{plane_cut};
+ghost use Rattle.plane_cut.specs.Defaulted.{plane_defaulted};
 ghost use Rattle.line_cut.specs.LineCut.{line_cut};
+ghost use Rattle.line_cut.specs.Defaulted.{line_defaulted};
 ghost use Rattle.plane_cell.specs.PlaneCell.{plane_cell_cut};
+ghost use Rattle.plane_cell.specs.Defaulted.{plane_cell_defaulted};
 ghost use Rattle.gather.specs.Gather.{gather_cut};
+ghost use Rattle.gather.specs.Defaulted.{gather_defaulted};
 ghost use Rattle.cicelybeam.specs.Exports.{told_in, told_line_in, told_tolerance_in};
 
 use cicelybeam::{Line, Section, Tolerance};
@@ -36,7 +41,10 @@ pub extern "C" fn cicelybeam_plane(
         (plane_cut (cell cell_type conn.now coords.now) (through origin.now normal.now) tol
         (lengths (buffers numbers.old nodes.old ends.old)))
         (told_in result) (buffers numbers.old nodes.old ends.old)
-        (buffers numbers.new nodes.new ends.new) }
+        (buffers numbers.new nodes.new ends.new)
+        × (result.defaulted
+        ≡ told_count (plane_defaulted (cell cell_type conn.now coords.now) (through origin.now normal.now) tol
+        (lengths (buffers numbers.old nodes.old ends.old)))) }
 {
     cicelybeam::cicelybeam_plane(
         cell_type, conn, coords, origin, normal, tol, numbers, nodes, ends,
@@ -57,7 +65,9 @@ pub extern "C" fn cicelybeam_gather(
     ensures { GaveLine
         (gather_cut (cell cell_type conn.now coords.now)
         (through origin.now normal.now) tol (length numbers.old))
-        (told_line_in result) numbers.old numbers.new }
+        (told_line_in result) numbers.old numbers.new
+        × (result.defaulted
+        ≡ told_count (gather_defaulted (cell cell_type conn.now coords.now) (through origin.now normal.now) tol (length numbers.old))) }
 {
     cicelybeam::cicelybeam_gather(cell_type, conn, coords, origin, normal, tol, numbers)
 }
@@ -76,7 +86,9 @@ pub extern "C" fn cicelybeam_line_in_space(
     ensures { GaveLine
         (line_cut (cell cell_type conn.now coords.now)
         (through origin.now direction.now) tol (length numbers.old))
-        (told_line_in result) numbers.old numbers.new }
+        (told_line_in result) numbers.old numbers.new
+        × (result.defaulted
+        ≡ told_count (line_defaulted (cell cell_type conn.now coords.now) (through origin.now direction.now) tol (length numbers.old))) }
 {
     cicelybeam::cicelybeam_line_in_space(cell_type, conn, coords, origin, direction, tol, numbers)
 }
@@ -95,7 +107,10 @@ pub extern "C" fn cicelybeam_plane_cell_by_normal(
     ensures { GaveLine
         (plane_cell_cut way.Normal (cell cell_type conn.now coords.now)
         (through origin.now normal.now) tol (length numbers.old))
-        (told_line_in result) numbers.old numbers.new }
+        (told_line_in result) numbers.old numbers.new
+        × (result.defaulted
+        ≡ told_count (plane_cell_defaulted way.Normal (cell cell_type conn.now coords.now) (through origin.now normal.now) tol
+        (length numbers.old))) }
 {
     cicelybeam::cicelybeam_plane_cell_by_normal(
         cell_type, conn, coords, origin, normal, tol, numbers,
@@ -116,7 +131,10 @@ pub extern "C" fn cicelybeam_plane_cell_by_direction(
     ensures { GaveLine
         (plane_cell_cut way.Direction (cell cell_type conn.now coords.now)
         (through origin.now direction.now) tol (length numbers.old))
-        (told_line_in result) numbers.old numbers.new }
+        (told_line_in result) numbers.old numbers.new
+        × (result.defaulted
+        ≡ told_count (plane_cell_defaulted way.Direction (cell cell_type conn.now coords.now) (through origin.now direction.now) tol
+        (length numbers.old))) }
 {
     cicelybeam::cicelybeam_plane_cell_by_direction(
         cell_type, conn, coords, origin, direction, tol, numbers,
@@ -136,7 +154,8 @@ pub extern "C" fn cicelybeam_stitch(
         (stitch_alone segments.now tol
         (lengths (buffers numbers.old nodes.old ends.old)))
         (told_in result) (buffers numbers.old nodes.old ends.old)
-        (buffers numbers.new nodes.new ends.new) }
+        (buffers numbers.new nodes.new ends.new)
+        × (result.defaulted ≡ 0) }
 {
     cicelybeam::cicelybeam_stitch(segments, tol, numbers, nodes, ends)
 }

@@ -19,7 +19,7 @@ use Rattle.clip.proofs.Signs.{above_inside, above_off, below_inside, below_not_a
 
 -- ---- each point of a list
 
-each_map : {P Q : Vector → Type 0} → ((p : Vector) → P p → Q p) → (ps : List Vector) → Each P ps → Each Q ps
+pub each_map : {P Q : Vector → Type 0} → ((p : Vector) → P p → Q p) → (ps : List Vector) → Each P ps → Each Q ps
 each_map f [] h = tt
 each_map f (p ∷ ps) h = (f p h.0, each_map f ps h.1)
 

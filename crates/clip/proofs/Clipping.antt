@@ -155,8 +155,8 @@ module _ {w : ℕ} {c : Cut} {s tol2 : Float} {n : ℕ} {ps xs : List Float} {i 
       rw e at (sym (get_or-drop (w * m) zs (k - w * m) nan) ∙ ap (λ (l : List Float). get_or l (k - w * m) nan) v.rest
       ∙ get_or-drop (w * m) xs (k - w * m) nan)
 
-  ed : db ≡ signed c s b
-  ed = read ∙ by_place (cases_lt (i + 1) n)
+  pub next_signed : db ≡ signed c s b
+  next_signed = read ∙ by_place (cases_lt (i + 1) n)
     where
       by_place : (i + 1 < n) ⊎ (n ≤ i + 1)
           → signed_read s zs (length xs - n + i + 1) (mul binary64 s (get_or xs (length xs - n) nan)) ≡ signed c s b
@@ -183,10 +183,10 @@ module _ {w : ℕ} {c : Cut} {s tol2 : Float} {n : ℕ} {ps xs : List Float} {i 
   module _ {k : List Vector} (ek : k ≡ clip_edge c a da b db) where
     side : clip_sides c s (drop i (edges (rows w n ps))) ≡ k ++ clip_sides c s (drop (i + 1) (edges (rows w n ps)))
     unfolding clip_sides
-    side = rw (edge_from w n ps h ej (v.corner h) eb, ek, v.its_distance, ed)
+    side = rw (edge_from w n ps h ej (v.corner h) eb, ek, v.its_distance, next_signed)
 
     given : length k ≡ length (clip_side c s (seg a b))
-    given = let e : k ≡ clip_side c s (seg a b) = rw (ek, v.its_distance, ed) in ap length e
+    given = let e : k ≡ clip_side c s (seg a b) = rw (ek, v.its_distance, next_signed) in ap length e
 
     pub clipping_room : m + length k ≤ at_most n
     clipping_room = omega (arith, v.room, ap length side, length-append k (clip_sides c s (drop (i + 1) (edges (rows w n ps)))))
@@ -202,7 +202,7 @@ module _ {w : ℕ} {c : Cut} {s tol2 : Float} {n : ℕ} {ps xs : List Float} {i 
           same_length = l ∙ v.same_length;
           within = omega arith;
           corner = next_corner w ps i ej eb;
-          its_distance = ed;
+          its_distance = next_signed;
           few = omega (arith, v.few, (pushed_range m tol2 k g).1, side_bound c s a b, given);
         }
 

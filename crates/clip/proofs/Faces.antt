@@ -1,12 +1,12 @@
 -- The segments of a cell gathered face by face, as the loop does it. Assumes nothing.
 use mathlib.Core.Path.{◌≡◌, ap, sym, ◌∙◌}
-use mathlib.Core.List.{List, [], ◌∷◌, ◌++◌, append_assoc, map}
+use mathlib.Core.List.{List, [], ◌∷◌, ◌++◌, append_assoc, append-nil, map}
 use Prim.Native.Nat.{ℕ, ◌+◌, ◌-◌, ◌*◌, ◌/◌, ◌≤◌, ◌<◌}
 use native.Mathlib.Nat.{mul-div-le, mul-le-mul_left, mul-sub}
 use native.Mathlib.Numerals.{add-one}
 use native.Mathlib.Omega.{arith}
 use lib.Ieee.{Float}
-use lib.ListN.{length, get_or, take, drop, length-append, length-drop, length-map}
+use lib.ListN.{length, get_or, take, drop, drop_of_length-le, length-append, length-drop, length-map}
 use lib.Seq.{drop-cons}
 use Rattle.vector.specs.declared.Plane.{Plane}
 use Rattle.vector.specs.Rows.{all_rows, all_segs, rows, segs}
@@ -68,6 +68,9 @@ module _ {c : Cut} {f : Plane} {w p q : ℕ} {es : List ℕ} {ps xs : List Float
   pub face_count : length lent / w ≡ get_or es i 0 - s
   face_count = slice_count w (get_or es i 0 - s) (drop (w * s) ps) o lent_there numbers
 
+  pub face_rows : all_rows w lent ≡ rows w (get_or es i 0 - s) (drop (w * s) ps)
+  face_rows = slice_rows w (get_or es i 0 - s) (drop (w * s) ps) o lent_there numbers
+
   module _ {c' : Cut} (ec : c' ≡ c) {r : ℕ} {us vs : List Float} (found : Segments w us (plane_section_segments c' (all_rows w lent)) r vs) where
     face_few : r ≤ at_most (get_or es i 0 - s)
     face_few = omega (arith, section_count w c' (length lent / w) lent found, face_count)
@@ -86,8 +89,7 @@ module _ {c : Cut} {f : Plane} {w p q : ℕ} {es : List ℕ} {ps xs : List Float
     gathering_step {b} {t} {ys} eb room g l =
         let e = get_or es i 0 in
         let qs = rows w (e - s) (drop (w * s) ps) in
-        let read : all_rows w lent ≡ qs = slice_rows w (e - s) (drop (w * s) ps) o lent_there numbers in
-        let are : segs w r vs ≡ plane_section_segments c qs = found.are ∙ rw (ec, read) in
+        let are : segs w r vs ≡ plane_section_segments c qs = found.are ∙ rw (ec, face_rows) in
         let got : segs 2 t ys ≡ segs 2 k zs ++ face_segments c f qs = rw (slice_segs w r vs o room eb, are) at g.are in
         let later = cell_segments c f (faces_from w e (drop (i + 1) es) ps) in
         let n : t ≡ k + length (face_segments c f qs) =
@@ -102,3 +104,8 @@ module _ {c : Cut} {f : Plane} {w p q : ℕ} {es : List ℕ} {ps xs : List Float
           few = omega (arith, face_from, v.few);
           fit = fits.3;
         }
+
+pub gathering_end : {c : Cut} {f : Plane} {w p q : ℕ} {es : List ℕ} {ps xs : List Float} {i s k : ℕ} {zs : List Float}
+    → Gathering c f w p q es ps xs i s k zs → length es ≤ i → Segments 2 xs (cell_segments c f (faces_from w 0 es ps)) k zs
+gathering_end {es = es} {i = i} {k = k} {zs = zs} v h =
+    record { are = sym (v.total ∙ rw (drop_of_length-le es {i = i} h, append-nil (segs 2 k zs))); rest = v.rest }

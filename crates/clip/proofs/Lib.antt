@@ -1,6 +1,7 @@
 pub mod Signs
 pub mod Bound
 pub mod Clear
+pub mod Defaulted
 pub mod Ring
 pub mod KeptSide
 pub mod Clipping
@@ -8,4 +9,5 @@ pub mod Listing
 pub mod Section
 pub mod Carrying
 pub mod Faces
+pub mod Counting
 pub mod Written

@@ -8,6 +8,7 @@ ghost use Rattle.vector.specs.Rows.{all_segs, segs};
 ghost use Rattle.clip.specs.Cell.{at_most, cut_by, faces_of, project_seg};
 ghost use Rattle.clip.specs.Clip.{ratio};
 ghost use Rattle.clip.specs.Code.{CellCut, Fit, Segments, next_of, side_of};
+ghost use Rattle.clip.specs.Defaulted.{defaults};
 ghost use Rattle.clip.specs.View.{cut_of};
 
 pub mod polygon;
@@ -15,16 +16,25 @@ pub mod polygon;
 use polygon::{Cut, plane_section_segments};
 use vector::{Plane, absolute, coord, put};
 
-// How many segments were written.
+// How many segments were written, and how many crossings were defaulted.
 #[derive(Clone, Copy)]
 pub struct Found {
     pub segments: usize,
+    pub defaulted: usize,
 }
 
-// How many clipped points were written.
+// How many clipped points were written, and how many crossings were defaulted.
 #[derive(Clone, Copy)]
 pub struct Clipped {
     pub points: usize,
+    pub defaulted: usize,
+}
+
+// Where an edge meets the cut, from 0 at its first end to 1: divided, or the middle by default.
+#[derive(Clone, Copy)]
+pub struct Meeting {
+    pub t: f64,
+    pub defaulted: bool,
 }
 
 // The plane that cuts a cell in space, with its axes, and the tolerance of the tests.
@@ -64,13 +74,18 @@ pub fn cell_segments(
 {
     let cut = cutting.cut();
     let mut k = 0;
+    let mut defaulted = 0;
     let mut s = 0;
     for &e in ends {
         let found = plane_section_segments(&coords[3 * s..3 * e], &cut, points, space);
         k = project_segments(&space[..6 * found.segments], cutting.plane, out, k);
+        defaulted += found.defaulted;
         s = e;
     }
-    Found { segments: k }
+    Found {
+        segments: k,
+        defaulted,
+    }
 }
 
 // Projects segments into the plane, after the `from` in out, where they grow in place. Gives how many there are then. `put_on_line` of
@@ -89,15 +104,21 @@ fn project_segments(space: &[f64], plane: Plane, out: &mut [f64], from: usize) -
     from + k
 }
 
-// Where an edge meets the cut, from 0 at its first end to 1, by the signed distances of its ends.
-pub fn ratio(da: f64, db: f64) -> f64
-    ensures { result ≡ ratio da db }
+// Where an edge meets the cut, by the signed distances of its ends.
+pub fn ratio(da: f64, db: f64) -> Meeting
+    ensures { (result.t ≡ ratio da db) × (result.defaulted ≡ defaults da db) }
 {
     let denom = da - db;
     if absolute(denom) > f64::MIN_POSITIVE {
-        return da / denom;
+        return Meeting {
+            t: da / denom,
+            defaulted: false,
+        };
     }
-    0.5
+    Meeting {
+        t: 0.5,
+        defaulted: true,
+    }
 }
 
 // The side of the cut that a polygon is clipped to, by the sign that makes its distances positive, if so many of n corners are above

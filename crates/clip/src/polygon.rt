@@ -35,16 +35,18 @@ pub enum Clip<const D: usize> {
     Two([f64; D], [f64; D]),
 }
 
-// The point where a directed edge meets the cut.
+// The point where a directed edge meets the cut, and whether it lies there by default.
 #[derive(Clone, Copy)]
 pub struct Crossing<const D: usize> {
     pub point: [f64; D],
+    pub defaulted: bool,
 }
 
-// What a directed edge gives.
+// What a directed edge gives, and whether it has a crossing that was defaulted.
 #[derive(Clone, Copy)]
 pub struct Clipping<const D: usize> {
     pub clip: Clip<D>,
+    pub defaulted: bool,
 }
 
 // Intersection of a polygon with the cut: its segments, written to out.
@@ -64,12 +66,16 @@ pub fn plane_section_segments<const D: usize>(
         × (D * (2 * at_most (length polygon.now / D)) ≤ length out.old) }
     ensures { FaceCut D (cut_of cut.now) (all_rows D polygon.now) out.old result out.new }
 {
+    let none = Found {
+        segments: 0,
+        defaulted: 0,
+    };
     if polygon.len() / D < 3 {
-        return Found { segments: 0 };
+        return none;
     }
     match kept_side(polygon, cut, points) {
         Some(sign) => section_on(polygon, cut, sign, points, out),
-        None => Found { segments: 0 },
+        None => none,
     }
 }
 
@@ -82,7 +88,7 @@ fn section_on<const D: usize>(
     points: &mut [f64],
     out: &mut [f64],
 ) -> Found
-    requires { (0 < D) × (0 < length polygon.now / D) × (D * at_most (length polygon.now / D) ≤ length points.old)
+    requires { (0 < D) × (2 < length polygon.now / D) × (D * at_most (length polygon.now / D) ≤ length points.old)
         × (D * (2 * at_most (length polygon.now / D)) ≤ length out.old)
         × Distances (cut_of cut.now) D (length polygon.now / D) polygon.now points.old }
     ensures { SideCut D (cut_of cut.now) sign (all_rows D polygon.now) out.old result
@@ -90,11 +96,16 @@ fn section_on<const D: usize>(
 {
     let clipped = clip_polygon(polygon, cut, sign, points);
     let left = without_closing::<D>(&points[..D * clipped.points], cut.tol2());
+    let defaulted = clipped.defaulted;
     if left < 2 {
-        return Found { segments: 0 };
+        return Found {
+            segments: 0,
+            defaulted,
+        };
     }
     Found {
         segments: segments(&points[..D * left], cut, out),
+        defaulted,
     }
 }
 
@@ -125,7 +136,7 @@ fn clip_polygon<const D: usize>(
     sign: f64,
     points: &mut [f64],
 ) -> Clipped
-    requires { (0 < D) × (0 < length polygon.now / D) × (D * at_most (length polygon.now / D) ≤ length points.old)
+    requires { (0 < D) × (2 < length polygon.now / D) × (D * at_most (length polygon.now / D) ≤ length points.old)
         × Distances (cut_of cut.now) D (length polygon.now / D) polygon.now points.old }
     ensures { PolygonClipped D (cut_of cut.now) sign (tol_squared (cut_of cut.now)) (all_rows D polygon.now) points.old result
         points.new }
@@ -137,15 +148,20 @@ fn clip_polygon<const D: usize>(
     let mut a = coord(polygon, 0);
     let mut da = first;
     let mut m = 0;
+    let mut defaulted = 0;
     for i in 0..n {
         let b = coord(polygon, next_of(i, n));
         let db = signed_at(points, distances + i + 1, sign, first);
         let edge = clip_edge(a, da, b, db, cut);
         m = push_clip(points, m, edge.clip, tol2);
+        defaulted += usize::from(edge.defaulted);
         a = b;
         da = db;
     }
-    Clipped { points: m }
+    Clipped {
+        points: m,
+        defaulted,
+    }
 }
 
 // What the edge from a to b gives, by the signed distances da and db. Ends and distances stand one by one, here and below: a
@@ -157,16 +173,33 @@ fn clip_edge<const D: usize>(
     db: f64,
     cut: &Cut<D>,
 ) -> Clipping<D>
-    ensures { EdgeClipped (cut_of cut.now) a.entry da b.entry db (points_of result.clip) }
+    ensures { EdgeClipped (cut_of cut.now) a.entry da b.entry db (points_of result.clip) result.defaulted }
 {
     let low = -cut.tol;
-    let clip = match (da >= low, db >= low) {
-        (true, true) => Clip::One(b),
-        (true, false) => Clip::One(plane_intersection(a, da, b, db, cut).point),
-        (false, true) => Clip::Two(plane_intersection(a, da, b, db, cut).point, b),
-        (false, false) => Clip::Nothing,
-    };
-    Clipping { clip }
+    match (da >= low, db >= low) {
+        (true, true) => Clipping {
+            clip: Clip::One(b),
+            defaulted: false,
+        },
+        (true, false) => {
+            let leaving = plane_intersection(a, da, b, db, cut);
+            Clipping {
+                clip: Clip::One(leaving.point),
+                defaulted: leaving.defaulted,
+            }
+        }
+        (false, true) => {
+            let entering = plane_intersection(a, da, b, db, cut);
+            Clipping {
+                clip: Clip::Two(entering.point, b),
+                defaulted: entering.defaulted,
+            }
+        }
+        (false, false) => Clipping {
+            clip: Clip::Nothing,
+            defaulted: false,
+        },
+    }
 }
 
 // Where the edge from a to b meets the cut, moved onto the cut to remove the interpolation error.
@@ -177,13 +210,14 @@ fn plane_intersection<const D: usize>(
     db: f64,
     cut: &Cut<D>,
 ) -> Crossing<D>
-    ensures { Crossed (cut_of cut.now) a.entry da b.entry db result.point }
+    ensures { Crossed (cut_of cut.now) a.entry da b.entry db result.point result.defaulted }
 {
-    let t = ratio(da, db);
-    let p = plus(a, scaled(minus(b, a), t));
+    let at = ratio(da, db);
+    let p = plus(a, scaled(minus(b, a), at.t));
     let d = distance(p, cut.origin, cut.normal);
     Crossing {
         point: minus(p, scaled(cut.normal, d)),
+        defaulted: at.defaulted,
     }
 }
 

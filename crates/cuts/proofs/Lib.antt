@@ -4,3 +4,4 @@ pub mod Copying
 pub mod Cutting
 pub mod Segments
 pub mod Answers
+pub mod Defaulted

@@ -1,6 +1,6 @@
 -- What the clauses of the code cite, here and in the crates of the cuts. Definitions only.
 use mathlib.Core.List.{List, flatten}
-use Rattle.std.specs.Prelude.{ℕ, ◌*◌, ◌/◌, ◌≤◌, length, Float}
+use Rattle.std.specs.Prelude.{◌≡◌, ℕ, ◌*◌, ◌/◌, ◌≤◌, length, Float}
 use Rattle.vector.specs.Vector.{Vector}
 use Rattle.vector.specs.declared.Plane.{Plane}
 use Rattle.cell.specs.Read.{Polygon, Cell, space_cell, polygons_of}
@@ -8,8 +8,9 @@ use Rattle.clip.specs.Cell.{at_most}
 use Rattle.walk.specs.Walk.{All}
 use Rattle.stitch.specs.Code.{AnswerGiven}
 use Rattle.stitch.specs.Entry.{Buffers}
-use Rattle.stitch.specs.declared.Stitched.{Stitched}
 use Rattle.cuts.specs.Cuts.{Through, section_of, through}
+use Rattle.cuts.specs.Defaulted.{defaulted_on}
+use Rattle.cuts.specs.declared.CellSection.{CellSection}
 use Rattle.cuts.specs.declared.Through as code
 use Rattle.cuts.specs.declared.Size.{Size}
 use Rattle.cuts.specs.declared.Size.TheVariants.{Fixed, Small, Large}
@@ -30,10 +31,11 @@ pub record Roomy (m : ℕ) (numbers : List Float) (nodes ends : List ℕ) : Type
   pub for_nodes : 3 * m / 2 ≤ length nodes
   pub for_ends : m / 2 ≤ length ends
 
--- the section of polygons by a plane is given
-pub record SectionGiven (f : Plane) (tol : Float) (ps : List Polygon) (r : Stitched) (b b' : Buffers) : Type 0 where
+-- the section of polygons by a plane is given, and its crossings by default are counted
+pub record SectionGiven (f : Plane) (tol : Float) (ps : List Polygon) (r : CellSection) (b b' : Buffers) : Type 0 where
   pub stitched
-      : AnswerGiven (section_of f tol ps) r b.numbers b'.numbers b.nodes b'.nodes b.ends b'.ends
+      : AnswerGiven (section_of f tol ps) r.stitched b.numbers b'.numbers b.nodes b'.nodes b.ends b'.ends
+  pub counted : r.defaulted ≡ defaulted_on f tol ps
 
 -- ---- the sizes of scratch
 

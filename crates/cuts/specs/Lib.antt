@@ -1,3 +1,4 @@
 pub mod Cuts
 pub mod Lines
+pub mod Defaulted
 pub mod Code

@@ -129,6 +129,13 @@ fn gather_within<const CORNERS: usize, const FACES: usize, const POINTS: usize, 
     )
 }
 
+// What was stitched of a cell, and how many of its crossings were defaulted.
+#[derive(Clone, Copy)]
+pub struct CellSection {
+    pub stitched: Stitched,
+    pub defaulted: usize,
+}
+
 // The section of an accepted cell by a plane: its segments, stitched. The lent buffers stand one by one, as in stitch, and why.
 pub fn section_cell(
     cell: &SpaceCell,
@@ -136,7 +143,7 @@ pub fn section_cell(
     numbers: &mut [f64],
     nodes: &mut [u32],
     ends: &mut [u32],
-) -> Stitched
+) -> CellSection
     requires { Roomy cell.now.corners numbers.old nodes.old ends.old }
     ensures { SectionGiven cutting.now.plane cutting.now.tol (polygons_of (space_cell (cell_of cell.now.cell))) result
         (buffers numbers.old nodes.old ends.old)
@@ -157,7 +164,7 @@ pub fn section_within<const SEGMENTS: usize>(
     numbers: &mut [f64],
     nodes: &mut [u32],
     ends: &mut [u32],
-) -> Stitched
+) -> CellSection
     requires { Roomy cell.now.corners numbers.old nodes.old ends.old × (SEGMENTS ≤ 1536)
         × (6 * cell.now.corners ≤ SEGMENTS) }
     ensures { SectionGiven cutting.now.plane cutting.now.tol (polygons_of (space_cell (cell_of cell.now.cell))) result
@@ -167,5 +174,9 @@ pub fn section_within<const SEGMENTS: usize>(
     let mut segments = [0.0; SEGMENTS];
     let found = gather_cell(cell, cutting, &mut segments);
     let segments = &segments[..4 * found.segments];
-    stitch::stitch_segments(segments, cutting.tol, numbers, nodes, ends)
+    let stitched = stitch::stitch_segments(segments, cutting.tol, numbers, nodes, ends);
+    CellSection {
+        stitched,
+        defaulted: found.defaulted,
+    }
 }

@@ -88,7 +88,7 @@ module _ (tol : Float) (l : Lengths) (ss : List Seg) (w : All (Wide 2) ss) (few 
 -- ---- the plane cut by gathering
 
 -- two tests of room, of which the first is a part of the second
-steps : {A B : Type 0} (a b : Bool) (s : A) (x : B) (next : A → Outcome B) → (a && b ≡ true → next s ≡ found x)
+pub steps : {A B : Type 0} (a b : Bool) (s : A) (x : B) (next : A → Outcome B) → (a && b ≡ true → next s ≡ found x)
     → unless 7 (a && b) (found x) ≡ and_then (unless 7 a (found s)) (λ s. unless 7 (a && b) (next s))
 steps true true s x next h = sym (h refl)
 steps true false s x next h = refl

@@ -2,3 +2,4 @@ pub mod Corners
 pub mod LoopsCut
 pub mod Sections
 pub mod Claims
+pub mod Defaulted

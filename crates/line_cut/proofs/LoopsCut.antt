@@ -10,16 +10,18 @@ use lib.Seq.{drop-cons, drop-drop, get_or-drop, get_or-take, length-take-le}
 use Rattle.vector.specs.Vector.{Vector, at, scale}
 use Rattle.vector.proofs.Coordinates.{length_each}
 use Rattle.vector.specs.declared.Plane.{Plane}
-use Rattle.vector.specs.Rows.{all_rows, rows, segs}
+use Rattle.vector.specs.Rows.{all_rows, segs}
 use Rattle.vector.proofs.Rows.{drop_later, segs_length}
 use Rattle.clip.specs.Cell.{at_most}
 use Rattle.clip.specs.Clip.{Cut, plane_section_segments}
 use Rattle.clip.specs.Code.{Points, Segments}
+use Rattle.clip.specs.Defaulted.{defaulted}
 use Rattle.clip.proofs.Bound.{section_bound}
-use Rattle.clip.proofs.Written.{segments_count}
+use Rattle.clip.proofs.Written.{segments_count, segments_same}
 use Rattle.vector.proofs.Slices.{slice_rows}
 use Rattle.walk.specs.Walk.{point_at}
 use Rattle.stitch.specs.Code.{cut}
+use Rattle.line_cut.specs.Defaulted.{loop_defaulted}
 use Rattle.line_cut.specs.LineCut.{axis, loop_segments, loops_segments, on_line, segment_on_line}
 use Rattle.line_cut.specs.Code.{CanCutLoop, CanCutLoops, Rising, on_line_of}
 
@@ -37,19 +39,20 @@ rising_most s (e ∷ es) m h = omega (arith, h.0, rising_most e es m h.1)
 pub loop_bound : (tol : Float) (ps : List Vector) (l : List ℕ) → length (loop_segments tol ps l) ≤ at_most (length l)
 loop_bound tol ps l = omega (arith, section_bound (axis tol) (map (point_at ps) l), length-map l (point_at ps))
 
--- the segments of the polygon of a loop's points are the loop's
+-- the slice that holds just a loop's points is its polygon, whose segments and crossings by default are the loop's
 module _ (tol : Float) (ps : List Vector) (nodes : List ℕ) where
-  pub loop_segments_lem : {c : Cut} {xs zs flat flat' : List Float} {k : ℕ} → c ≡ axis tol → Points 2 xs (map (point_at ps) nodes) (length nodes)
-      zs
-      → Segments 2 flat (plane_section_segments c (rows 2 (length nodes) zs)) k flat' → Segments 2 flat (loop_segments tol ps nodes) k flat'
-  loop_segments_lem e p h = record { are = h.are ∙ rw (p.are, e); rest = h.rest }
+  module _ {c : Cut} (e : c ≡ axis tol) {xs zs : List Float} (room : 2 * length nodes ≤ length zs)
+      (p : Points 2 xs (map (point_at ps) nodes) (length nodes) zs) where
+    loop_polygon : all_rows 2 (take (2 * length nodes) zs) ≡ map (point_at ps) nodes
+    loop_polygon = slice_rows 2 (length nodes) zs (omega arith) room refl ∙ p.are
 
-  -- and those of the slice that holds just these points
-  pub loop_segments_lent : {c : Cut} {xs zs flat flat' : List Float} {k : ℕ} → c ≡ axis tol → 2 * length nodes ≤ length zs
-      → Points 2 xs (map (point_at ps) nodes) (length nodes) zs
-      → Segments 2 flat (plane_section_segments c (all_rows 2 (take (2 * length nodes) zs))) k flat'
-      → Segments 2 flat (loop_segments tol ps nodes) k flat'
-  loop_segments_lent {zs = zs} e room p h = loop_segments_lem e p (rw (slice_rows 2 (length nodes) zs (omega arith) room refl) at h)
+    pub loop_segments_lent : {flat flat' : List Float} {k : ℕ}
+        → Segments 2 flat (plane_section_segments c (all_rows 2 (take (2 * length nodes) zs))) k flat'
+        → Segments 2 flat (loop_segments tol ps nodes) k flat'
+    loop_segments_lent h = segments_same (rw (loop_polygon, e)) h
+
+    pub loop_defaulted_lent : {k : ℕ} → k ≡ defaulted c (all_rows 2 (take (2 * length nodes) zs)) → k ≡ loop_defaulted tol ps nodes
+    loop_defaulted_lent h = h ∙ rw (loop_polygon, e)
 
   pub loop_few : {flat flat' : List Float} {k : ℕ} → Segments 2 flat (loop_segments tol ps nodes) k flat' → k ≤ at_most (length nodes)
   loop_few h = omega (arith, segments_count h, loop_bound tol ps nodes)
@@ -85,7 +88,7 @@ module _ {f : Plane} {tol : Float} {ps : List Vector} {nodes ends : List ℕ} {x
     abbrev loop : ℕ → List ℕ
     loop e = take (e - s) (drop s nodes)
 
-    loop_length : length (loop (get_or ends i 0)) ≡ get_or ends i 0 - s
+    pub loop_length : length (loop (get_or ends i 0)) ≡ get_or ends i 0 - s
     loop_length =
         length-take-le (get_or ends i 0 - s) (drop s nodes) (omega (arith, loop_from, loop_to, length-drop s nodes))
 
@@ -116,7 +119,7 @@ module _ {f : Plane} {tol : Float} {ps : List Vector} {nodes ends : List ℕ} {x
           omega (arith, v.few, v.same_length),
         )
 
-    split : cut s (drop i ends) (drop s nodes)
+    pub split : cut s (drop i ends) (drop s nodes)
         ≡ loop (get_or ends i 0) ∷ cut (get_or ends i 0) (drop (i + 1) ends) (drop (get_or ends i 0) nodes)
     unfolding cut
     split =

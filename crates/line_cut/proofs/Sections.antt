@@ -28,7 +28,8 @@ use Rattle.stitch.proofs.Welded.{cut_ends}
 use Rattle.cuts.specs.Cuts.{section_of, segments_on}
 use Rattle.cuts.proofs.Sizes.{all_in_row, corners_in_all, segments_most}
 use Rattle.line_cut.specs.LineCut.{line_of_section, loop_segments, loops_segments, segment_on_line}
-use Rattle.line_cut.specs.Code.{CanCutLoops, LineFits, Rising, on_line_of}
+use Rattle.line_cut.specs.Defaulted.{loops_defaulted}
+use Rattle.line_cut.specs.Code.{CanCutLoops, LineFits, Rising, on_line_defaulted, on_line_of}
 use Rattle.line_cut.specs.LineCut.{LineBounded}
 use Rattle.line_cut.proofs.LoopsCut.{loop_bound}
 
@@ -76,13 +77,23 @@ module _ {a : Answer} {r : Stitched} {numbers numbers' : List Float} {nodes node
       let l = ap length g.ends_are ∙ length-append (ends_from 0 a.loops) (drop (length (ends_from 0 a.loops)) ends) in
       omega (arith, g.loop_count, length_ends 0 a.loops)
 
-  -- so their cut by y = 0 is that of the section
-  pub line_of : (f : Plane) (tol : Float) → 2 * r.points ≤ length numbers'
-      → on_line_of f tol (all_rows 2 (take (2 * r.points) numbers')) (take r.loops ends') (take r.nodes nodes') ≡ line_of_section f tol a
-  line_of f tol room =
-      let loops : cut 0 (ends_from 0 a.loops) (flatten a.loops) ≡ a.loops
-      = ap (cut 0 (ends_from 0 a.loops)) (sym (append-nil (flatten a.loops))) ∙ cut_ends 0 a.loops [] in
-      rw (slice_rows 2 r.points numbers' (omega arith) room refl, g.points_are, ends_taken, nodes_taken, loops)
+  loops_taken : cut 0 (take r.loops ends') (take r.nodes nodes') ≡ a.loops
+  loops_taken =
+      rw (ends_taken, nodes_taken)
+      (ap (cut 0 (ends_from 0 a.loops)) (sym (append-nil (flatten a.loops))) ∙ cut_ends 0 a.loops [])
+
+  -- so their cut by y = 0 is that of the section, and the crossings by default are its
+  module _ (tol : Float) (room : 2 * r.points ≤ length numbers') where
+    points_taken : all_rows 2 (take (2 * r.points) numbers') ≡ a.points
+    points_taken = slice_rows 2 r.points numbers' (omega arith) room refl ∙ g.points_are
+
+    pub line_of : (f : Plane)
+        → on_line_of f tol (all_rows 2 (take (2 * r.points) numbers')) (take r.loops ends') (take r.nodes nodes') ≡ line_of_section f tol a
+    line_of f = rw (points_taken, loops_taken)
+
+    pub defaulted_of : on_line_defaulted tol (all_rows 2 (take (2 * r.points) numbers')) (take r.loops ends') (take r.nodes nodes')
+        ≡ loops_defaulted tol a.points a.loops
+    defaulted_of = rw (points_taken, loops_taken)
 
 -- ---- how many segments
 

@@ -1,5 +1,5 @@
 -- What the clauses of the code cite. Definitions only.
-use Rattle.std.specs.Prelude.{List, [], ◌∷◌, map, ℕ, ◌*◌, ◌/◌, ◌≤◌, length, Float}
+use Rattle.std.specs.Prelude.{◌≡◌, List, [], ◌∷◌, map, ℕ, ◌*◌, ◌/◌, ◌≤◌, length, Float}
 use Rattle.vector.specs.Vector.{Vector}
 use Rattle.vector.specs.declared.Plane.{Plane}
 use Rattle.vector.specs.Rows.{Seg}
@@ -10,6 +10,7 @@ use Rattle.clip.specs.declared.Found.{Found}
 use Rattle.cuts.specs.Cuts.{section_of}
 use Rattle.walk.specs.Code.{Below}
 use Rattle.stitch.specs.Code.{cut}
+use Rattle.line_cut.specs.Defaulted.{defaulted_on_line, loops_defaulted}
 use Rattle.line_cut.specs.LineCut.{line_of_section, loops_segments, segment_on_line}
 
 -- scratch holds the section of a cell of m face corners, in a numbers, b nodes and c ends, and the polygon of a loop of it, its clipped
@@ -22,17 +23,23 @@ pub record LineFits (a b c p q r m : ℕ) : Type 0 where
   pub for_clipped : 2 * at_most (at_most m) ≤ q
   pub for_flat : 4 * at_most (at_most m) ≤ r
 
--- the segments on the line of a cell's section are given, after which the buffer is as it was
+-- the segments on the line of a cell's section are given, after which the buffer is as it was, and the crossings by default are counted
 pub record LineGiven (f : Plane) (tol : Float) (ps : List Polygon) (xs : List Float) (r : Found) (zs : List Float) : Type 0 where
   pub segments : Segments 3 xs (line_of_section f tol (section_of f tol ps)) r.segments zs
+  pub counted : r.defaulted ≡ defaulted_on_line f tol ps
 
--- the segments ss of loops stand in the buffer
-pub record LoopCut (xs : List Float) (ss : List Seg) (r : Found) (zs : List Float) : Type 0 where
+-- the segments ss of loops stand in the buffer, and n crossings are counted
+pub record LoopCut (xs : List Float) (ss : List Seg) (n : ℕ) (r : Found) (zs : List Float) : Type 0 where
   pub segments : Segments 3 xs ss r.segments zs
+  pub counted : r.defaulted ≡ n
 
 -- the segments on the line of loops whose nodes stand in a row and end at `ends`
 abbrev pub on_line_of : Plane → Float → List Vector → List ℕ → List ℕ → List Seg
 on_line_of f tol ps ends nodes = map (segment_on_line f) (loops_segments tol ps (cut 0 ends nodes))
+
+-- and their crossings by default
+abbrev pub on_line_defaulted : Float → List Vector → List ℕ → List ℕ → ℕ
+on_line_defaulted tol ps ends nodes = loops_defaulted tol ps (cut 0 ends nodes)
 
 -- nodes among the points of a slice, with room for a polygon of them, its clipped points and its segments, in so many numbers
 pub record CanCutLoop (points : List Float) (nodes : List ℕ) (polygon clipped flat : ℕ) : Type 0 where

@@ -1,2 +1,3 @@
 pub mod LineCut
+pub mod Defaulted
 pub mod Code

@@ -10,9 +10,11 @@ ghost use Rattle.clip.specs.View.{cut_of};
 ghost use Rattle.walk.specs.Code.{Below};
 ghost use Rattle.walk.specs.Walk.{point_at};
 ghost use Rattle.cuts.specs.Code.{through_of};
+ghost use Rattle.cuts.specs.Defaulted.{line_count, told_count};
 ghost use Rattle.cuts.specs.Lines.{GaveLine, line_told};
 ghost use Rattle.line_cut.specs.LineCut.{axis, line_cut, loop_segments, on_line, segment_on_line};
-ghost use Rattle.line_cut.specs.Code.{CanCutLoop, CanCutLoops, LineFits, LineGiven, LoopCut, on_line_of};
+ghost use Rattle.line_cut.specs.Defaulted.{line_defaulted, loop_defaulted};
+ghost use Rattle.line_cut.specs.Code.{CanCutLoop, CanCutLoops, LineFits, LineGiven, LoopCut, on_line_defaulted, on_line_of};
 
 use cell::Cell;
 use cell::accepted::SpaceCell;
@@ -22,7 +24,8 @@ use cuts::{Size, Through, Way};
 use rows::Refusal;
 use vector::{Plane, coord, plus, put, scaled};
 
-// Cuts a single cell in space with the line through origin that has this direction: the segments, six numbers each.
+// Cuts a single cell in space with the line through origin that has this direction: the segments, six numbers each. Tells how many
+// crossings were defaulted, too: of the cell on a plane, and of that section's loops on the line.
 //
 // The cell is cut by a plane that contains the line, whose in-plane basis makes the line y = 0, and the loops of
 // that section are cut by it.
@@ -34,7 +37,9 @@ pub fn slice_line_3d(
 ) -> Result<Found, Refusal>
     ensures { GaveLine
         (line_cut (cell_of cell.now) (through_of through.now) tol (length numbers.old))
-        (line_told result) numbers.old numbers.new }
+        (line_told result) numbers.old numbers.new
+        × (line_count result
+        ≡ told_count (line_defaulted (cell_of cell.now) (through_of through.now) tol (length numbers.old))) }
 {
     let accepted = cell.in_space()?;
     let plane = through.place(Way::Direction)?;
@@ -92,17 +97,22 @@ fn line_within<
         flat: [0.0; FLAT],
     };
     let section = cuts::section_cell(cell, cutting, &mut points, &mut nodes, &mut ends);
-    cut_loops(
-        &points[..2 * section.points],
-        &nodes[..section.nodes],
-        &ends[..section.loops],
+    let stitched = section.stitched;
+    let found = cut_loops(
+        &points[..2 * stitched.points],
+        &nodes[..stitched.nodes],
+        &ends[..stitched.loops],
         cutting,
         &mut scratch,
         numbers,
-    )
+    );
+    Found {
+        segments: found.segments,
+        defaulted: section.defaulted + found.defaulted,
+    }
 }
 
-// Cuts each loop by y = 0 and writes the segments on the line. Gives how many there are. Points and nodes stand one by one: here they are
+// Cuts each loop by y = 0 and writes the segments on the line. Gives how many there are, and how many crossings were defaulted. Points and nodes stand one by one: here they are
 // those of a section, below the nodes are of one loop.
 fn cut_loops<const POLYGON: usize, const CLIPPED: usize, const FLAT: usize>(
     points: &[f64],
@@ -115,20 +125,27 @@ fn cut_loops<const POLYGON: usize, const CLIPPED: usize, const FLAT: usize>(
     requires { CanCutLoops points.now nodes.now ends.now POLYGON CLIPPED FLAT numbers.old }
     ensures { LoopCut numbers.old
         (on_line_of cutting.now.plane cutting.now.tol (all_rows 2 points.now) ends.now nodes.now)
+        (on_line_defaulted cutting.now.tol (all_rows 2 points.now) ends.now nodes.now)
         result numbers.new }
 {
     let mut k = 0;
+    let mut defaulted = 0;
     let mut s = 0;
     for &end in ends {
         let e = end as usize;
         let found = cut_loop(points, &nodes[s..e], cutting, scratch, numbers, k);
         k = found.segments;
+        defaulted += found.defaulted;
         s = e;
     }
-    Found { segments: k }
+    Found {
+        segments: k,
+        defaulted,
+    }
 }
 
-// Cuts one loop by y = 0: its segments on the line, after the `from` in numbers, where they grow in place. Tells how many there are then.
+// Cuts one loop by y = 0: its segments on the line, after the `from` in numbers, where they grow in place. Tells how many there are
+// then, and how many of its crossings were defaulted.
 fn cut_loop<const POLYGON: usize, const CLIPPED: usize, const FLAT: usize>(
     points: &[f64],
     nodes: &[u32],
@@ -143,6 +160,7 @@ fn cut_loop<const POLYGON: usize, const CLIPPED: usize, const FLAT: usize>(
         (segs 3 from numbers.old
         ++ map (segment_on_line cutting.now.plane)
         (loop_segments cutting.now.tol (all_rows 2 points.now) nodes.now))
+        (loop_defaulted cutting.now.tol (all_rows 2 points.now) nodes.now)
         result numbers.new }
 {
     loop_points(points, nodes, &mut scratch.polygon);
@@ -152,6 +170,7 @@ fn cut_loop<const POLYGON: usize, const CLIPPED: usize, const FLAT: usize>(
     let flat = &scratch.flat[..4 * found.segments];
     Found {
         segments: put_on_line(flat, cutting.plane, numbers, from),
+        defaulted: found.defaulted,
     }
 }
 

@@ -1,3 +1,4 @@
 pub mod Polygons
 pub mod Lines
 pub mod Claims
+pub mod Defaulted

@@ -1,2 +1,3 @@
 pub mod PlaneCell
+pub mod Defaulted
 pub mod Code

@@ -6,8 +6,10 @@ ghost use Rattle.cell.specs.Read.{cell_of, plane_cell, polygons_of};
 ghost use Rattle.clip.specs.Cell.{at_most};
 ghost use Rattle.clip.specs.View.{cut_of};
 ghost use Rattle.cuts.specs.Code.{through_of};
+ghost use Rattle.cuts.specs.Defaulted.{line_count, told_count};
 ghost use Rattle.cuts.specs.Lines.{GaveLine, line_told};
 ghost use Rattle.plane_cell.specs.PlaneCell.{line_through, normal_by, plane_cell_cut};
+ghost use Rattle.plane_cell.specs.Defaulted.{plane_cell_defaulted};
 ghost use Rattle.plane_cell.specs.Code.{PolygonCut, cutting};
 
 use cell::Cell;
@@ -18,7 +20,7 @@ use cuts::{Through, Way};
 use rows::Refusal;
 use vector::{normal_along, unit};
 
-// Cuts a single cell in the plane with a line: the segments, four numbers each.
+// Cuts a single cell in the plane with a line: the segments, four numbers each. Tells how many crossings were defaulted, too.
 pub fn slice_2d(
     way: Way,
     cell: &Cell,
@@ -28,7 +30,9 @@ pub fn slice_2d(
 ) -> Result<Found, Refusal>
     ensures { GaveLine
         (plane_cell_cut way (cell_of cell.now) (through_of through.now) tol (length numbers.old))
-        (line_told result) numbers.old numbers.new }
+        (line_told result) numbers.old numbers.new
+        × (line_count result
+        ≡ told_count (plane_cell_defaulted way (cell_of cell.now) (through_of through.now) tol (length numbers.old))) }
 {
     let accepted = cell.in_plane()?;
     let cut = place(way, through, tol)?;

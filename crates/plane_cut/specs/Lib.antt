@@ -1,1 +1,2 @@
 pub mod PlaneCut
+pub mod Defaulted

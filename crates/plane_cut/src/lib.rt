@@ -1,20 +1,22 @@
 // A cell in space cut by a plane.
 #![tactic(auto)]
 
+ghost use Rattle.std.specs.Prelude.{◌≡◌};
 ghost use Rattle.cell.specs.Read.{cell_of};
 ghost use Rattle.stitch.specs.Entry.{Gave, buffers, lengths, section_told};
 ghost use Rattle.cuts.specs.Code.{through_of};
+ghost use Rattle.cuts.specs.Defaulted.{section_count, stitched_in, told_count};
 ghost use Rattle.plane_cut.specs.PlaneCut.{plane_cut};
+ghost use Rattle.plane_cut.specs.Defaulted.{plane_defaulted};
 
 use cell::Cell;
 use clip::CuttingPlane;
-use cuts::{Through, Way};
+use cuts::{CellSection, Through, Way};
 use rows::Refusal;
-use stitch::Stitched;
 use stitch::alone::room;
 
 // Cuts a single cell in space with a plane: the section's points in the plane's own coordinates, the nodes of its
-// loops, and where each loop ends among them. The lent buffers stand one by one, as in stitch.
+// loops, and where each loop ends among them; and tells how many crossings were defaulted. The lent buffers stand one by one, as in stitch.
 pub fn section_cell_by_plane(
     cell: &Cell,
     through: &Through,
@@ -22,12 +24,15 @@ pub fn section_cell_by_plane(
     numbers: &mut [f64],
     nodes: &mut [u32],
     ends: &mut [u32],
-) -> Result<Stitched, Refusal>
+) -> Result<CellSection, Refusal>
     ensures { Gave
         (plane_cut (cell_of cell.now) (through_of through.now) tol
         (lengths (buffers numbers.old nodes.old ends.old)))
-        (section_told result) (buffers numbers.old nodes.old ends.old)
-        (buffers numbers.new nodes.new ends.new) }
+        (section_told (stitched_in result)) (buffers numbers.old nodes.old ends.old)
+        (buffers numbers.new nodes.new ends.new)
+        × (section_count result
+        ≡ told_count (plane_defaulted (cell_of cell.now) (through_of through.now) tol
+        (lengths (buffers numbers.old nodes.old ends.old)))) }
 {
     let accepted = cell.in_space()?;
     let corners = accepted.corners;

@@ -128,10 +128,11 @@ impl Case<'_> {
     }
 }
 
-// What an entry tells: refusal, points or segments, nodes, loops, and the four counts of edges; and a tolerance or a root.
+// What an entry tells: refusal, points or segments, nodes, loops, the four counts of edges, and how many crossings were defaulted; and a
+// tolerance or a root.
 #[derive(Clone, Copy, Default)]
 pub struct Answered {
-    pub counts: [u32; 8],
+    pub counts: [u32; 9],
     pub value: f64,
 }
 
@@ -139,7 +140,15 @@ impl From<Section> for Answered {
     fn from(s: Section) -> Self {
         Answered {
             counts: [
-                s.refusal, s.points, s.nodes, s.loops, s.listed, s.in_loops, s.flat, s.opened,
+                s.refusal,
+                s.points,
+                s.nodes,
+                s.loops,
+                s.listed,
+                s.in_loops,
+                s.flat,
+                s.opened,
+                s.defaulted,
             ],
             value: 0.0,
         }
@@ -149,7 +158,7 @@ impl From<Section> for Answered {
 impl From<Line> for Answered {
     fn from(l: Line) -> Self {
         Answered {
-            counts: [l.refusal, l.segments, 0, 0, 0, 0, 0, 0],
+            counts: [l.refusal, l.segments, 0, 0, 0, 0, 0, 0, l.defaulted],
             value: 0.0,
         }
     }
@@ -158,7 +167,7 @@ impl From<Line> for Answered {
 impl From<Tolerance> for Answered {
     fn from(t: Tolerance) -> Self {
         Answered {
-            counts: [t.refusal, 0, 0, 0, 0, 0, 0, 0],
+            counts: [t.refusal, 0, 0, 0, 0, 0, 0, 0, 0],
             value: t.value,
         }
     }

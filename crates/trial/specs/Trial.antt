@@ -7,10 +7,12 @@ use Rattle.vector.specs.Rows.{put, row, rows, segs}
 use Rattle.clip.specs.Clip.{Cut, plane_section_segments}
 use Rattle.clip.specs.Cell.{at_most}
 use Rattle.clip.specs.Code.{Segments}
+use Rattle.clip.specs.Defaulted.{defaulted}
 use Rattle.stitch.specs.Stitch.{rule_of}
 use Rattle.stitch.specs.Code.{Stitches}
 use Rattle.stitch.specs.declared.Stitched.{Stitched}
 use Rattle.trial.specs.declared.Answer.{Answer}
+use Rattle.trial.specs.declared.Clipped.{Clipped}
 
 -- the number that says that a length does not fit
 abbrev pub refused : ℕ
@@ -35,9 +37,14 @@ ClipFits w limit poly placed points out =
     (length poly / w ≤ limit) × (2 * w ≤ length placed) × (w * at_most (length poly / w) ≤ length points)
     × (2 * w * at_most (length poly / w) ≤ length out)
 
--- the segments of the polygon of the first n rows
-abbrev pub Clips : ℕ → ℕ → List Float → List Float → Float → List Float → ℕ → List Float → Type 0
-Clips w n poly placed tol out r out' = Segments w out (plane_section_segments (cut_in w placed tol) (rows w n poly)) r out'
+-- the segments of the polygon of the first n rows, and its crossings by default
+pub record Clips (w n : ℕ) (poly placed : List Float) (tol : Float) (out : List Float) (r : Clipped) (out' : List Float) : Type 0 where
+  pub segments : Segments w out (plane_section_segments (cut_in w placed tol) (rows w n poly)) r.segments out'
+  pub counted : r.defaulted ≡ defaulted (cut_in w placed tol) (rows w n poly)
+
+-- refused: no crossing is told, and the buffer is as it was
+abbrev pub Unclipped : Clipped → List Float → List Float → Type 0
+Unclipped r out out' = Refused r.segments out out' × (r.defaulted ≡ 0)
 
 -- ---- stitching
 

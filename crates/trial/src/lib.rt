@@ -8,7 +8,7 @@ ghost use Rattle.vector.specs.Rows.{put, row};
 ghost use Rattle.vector.specs.Vector.{line_of, normal_along, plane_of, unit};
 ghost use Rattle.vector.specs.Tolerance.{tolerance};
 ghost use Rattle.stitch.specs.Code.{Stitchable};
-ghost use Rattle.trial.specs.Trial.{ClipFits, Clips, FrameGiven, Refused, Stitching, Total, UnitGiven, Unstitched, deprojected, plane_in, projected, stitched_in};
+ghost use Rattle.trial.specs.Trial.{ClipFits, Clips, FrameGiven, Refused, Stitching, Total, Unclipped, UnitGiven, Unstitched, deprojected, plane_in, projected, stitched_in};
 
 use clip::polygon::{Cut, plane_section_segments};
 use stitch::Stitched;
@@ -16,6 +16,14 @@ use vector::{Plane, coord, put};
 
 // The answer to lengths that do not fit.
 const REFUSED: usize = 4294967295;
+
+// The segments of a polygon and its crossings by default, counted.
+#[repr(C)]
+#[derive(Clone, Copy)]
+pub struct Clipped {
+    pub segments: usize,
+    pub defaulted: usize,
+}
 
 // The segments of a polygon in space, written to out, by a cut in two rows: its origin and its normal. Lends `points` as scratch.
 #[unsafe(no_mangle)]
@@ -25,11 +33,11 @@ pub extern "C" fn trial_space_segments(
     tol: f64,
     points: &mut [f64],
     out: &mut [f64],
-) -> usize
+) -> Clipped
     ensures { Total (ClipFits 3 256 poly.now placed.now points.old out.old)
         (Clips 3 (length poly.now / 3) poly.now placed.now tol out.old result
         out.new)
-        (Refused result out.old out.new) }
+        (Unclipped result out.old out.new) }
 {
     segments::<3, 256>(poly, placed, tol, points, out)
 }
@@ -42,11 +50,11 @@ pub extern "C" fn trial_plane_segments(
     tol: f64,
     points: &mut [f64],
     out: &mut [f64],
-) -> usize
+) -> Clipped
     ensures { Total (ClipFits 2 384 poly.now placed.now points.old out.old)
         (Clips 2 (length poly.now / 2) poly.now placed.now tol out.old result
         out.new)
-        (Refused result out.old out.new) }
+        (Unclipped result out.old out.new) }
 {
     segments::<2, 384>(poly, placed, tol, points, out)
 }
@@ -58,27 +66,35 @@ fn segments<const D: usize, const LIMIT: usize>(
     tol: f64,
     points: &mut [f64],
     out: &mut [f64],
-) -> usize
+) -> Clipped
     requires { (0 < D) × (D ≤ 3) × (LIMIT ≤ 384) }
     ensures { Total (ClipFits D LIMIT poly.now placed.now points.old out.old)
         (Clips D (length poly.now / D) poly.now placed.now tol out.old result
         out.new)
-        (Refused result out.old out.new) }
+        (Unclipped result out.old out.new) }
 {
+    let refused = Clipped {
+        segments: REFUSED,
+        defaulted: 0,
+    };
     let n = poly.len() / D;
     if n > LIMIT || placed.len() < 2 * D {
-        return REFUSED;
+        return refused;
     }
     let most = 3 * n / 2;
     if points.len() < D * most || out.len() < 2 * D * most {
-        return REFUSED;
+        return refused;
     }
     let cut = Cut {
         origin: coord::<D>(placed, 0),
         normal: coord::<D>(placed, 1),
         tol,
     };
-    plane_section_segments(poly, &cut, points, out).segments
+    let found = plane_section_segments(poly, &cut, points, out);
+    Clipped {
+        segments: found.segments,
+        defaulted: found.defaulted,
+    }
 }
 
 // What stitching gives, and whether the lengths fitted.

@@ -1,13 +1,20 @@
 -- `cicelybeam_plane` meets its contract. Assumes nothing.
+use native.Mathlib.Omega.{arith}
 use Rattle.cell.specs.Read.{cell}
 use Rattle.stitch.specs.Entry.{buffers, lengths}
 use Rattle.cuts.specs.Cuts.{through}
 use Rattle.plane_cut.proofs.Claims.{plane_small}
+use Rattle.plane_cut.proofs.Defaulted.{plane_defaulted_bound}
 use Rattle.cicelybeam.proofs.Exports.{told_small}
 use Rattle.cicelybeam.proofs.cicelybeam_plane.Goals as goal
 
 pub told_section-requires : goal.told_section-requires
 told_section-requires c =
     let g = c.args in
-    told_small c.section_cell_by_plane.ensures
-    (plane_small (cell g.cell_type g.conn.now g.coords.now) (through g.origin.now g.normal.now) g.tol (lengths (buffers g.numbers.now g.nodes.now g.ends.now)))
+    let k = cell g.cell_type g.conn.now g.coords.now in
+    let by = through g.origin.now g.normal.now in
+    let room = lengths (buffers g.numbers.now g.nodes.now g.ends.now) in
+    let told = c.section_cell_by_plane.ensures in (
+      told_small told.0 (plane_small k by g.tol room),
+      omega (arith, told.1, plane_defaulted_bound k by g.tol room),
+    )

@@ -5,12 +5,17 @@ use Rattle.cell.specs.Read.{cell}
 use Rattle.cuts.specs.Cuts.{through}
 use Rattle.cuts.specs.declared.Way.TheVariants.{Normal}
 use Rattle.plane_cell.proofs.Claims.{plane_cell_sound}
+use Rattle.plane_cell.proofs.Defaulted.{plane_cell_defaulted_bound}
 use Rattle.cicelybeam.proofs.Exports.{line_small}
 use Rattle.cicelybeam.proofs.cicelybeam_plane_cell_by_normal.Goals as goal
 
 pub told_line-requires : goal.told_line-requires
 told_line-requires c =
     let g = c.args in
-    line_small c.slice_2d.ensures 384
-    (plane_cell_sound Normal (cell g.cell_type g.conn.now g.coords.now) (through g.origin.now g.normal.now) g.tol (length g.numbers.now))
-    (omega arith)
+    let k = cell g.cell_type g.conn.now g.coords.now in
+    let by = through g.origin.now g.normal.now in
+    let room = length g.numbers.now in
+    let told = c.slice_2d.ensures in (
+      line_small told.0 384 (plane_cell_sound Normal k by g.tol room) (omega arith),
+      omega (arith, told.1, plane_cell_defaulted_bound Normal k by g.tol room),
+    )

@@ -1,11 +1,12 @@
 -- `clip::cell_segments` meets its contract. Assumes nothing.
--- The invariant: the segments listed, with those of the faces left, make the cell's.
+-- The invariant: the segments listed, with those of the faces left, make the cell's, and so it is with the count.
 use mathlib.Core.Path.{refl, sym, ◌∙◌}
 use Prim.Native.Nat.{◌*◌, ◌≤◌}
 use native.Mathlib.Omega.{arith}
 use lib.ListN.{length, get_or}
 use lib.Seq.{length-take-le}
-use Rattle.clip.proofs.Faces.{face_end, face_put, face_room, face_start, gathering_step}
+use Rattle.clip.proofs.Counting.{adding_end, adding_few, adding_step}
+use Rattle.clip.proofs.Faces.{face_end, face_put, face_room, face_start, gathering_end, gathering_step}
 use Rattle.vector.proofs.Slices.{slice_count}
 use Rattle.clip.proofs.cell_segments.Goals as goal
 use Rattle.clip.proofs.cell_segments.Goals.{After-plane_section_segments-found, In-loop-e}
@@ -57,6 +58,12 @@ project_segments-k-requires c =
     let put = face_put v c.loop-e-test.true (omega arith) c.cut-cut.ensures found.ensures.segments in
     omega (arith, put, slice_count 6 found.result.segments found.new.out (omega arith) room refl, v.same_length, c.requires.1)
 
+pub overflow_add-defaulted : goal.overflow_add-defaulted
+overflow_add-defaulted c =
+    let v = c.loop-e.invariant in
+    let few = adding_few v.3 v.0 c.loop-e-test.true (omega arith) c.cut-cut.ensures c.plane_section_segments-found.ensures.counted in
+    omega (arith, few, inside (goal.at.overflow_add-defaulted c).In-loop-e)
+
 pub loop-e-preserved : goal.loop-e-preserved
 loop-e-preserved c =
     let v = c.loop-e.invariant in
@@ -65,4 +72,8 @@ loop-e-preserved c =
       gathering_step v.0 c.loop-e-test.true (omega arith) c.cut-cut.ensures found.ensures.segments {b = 6 * found.result.segments} (omega arith) (held (goal.at.loop-e-preserved c).After-plane_section_segments-found) put.ensures put.auto.out,
       found.auto.points ∙ v.1,
       found.auto.out ∙ v.2,
+      adding_step v.3 v.0 c.loop-e-test.true (omega arith) c.cut-cut.ensures found.ensures.counted,
     )
+
+pub returns : goal.returns
+returns c = record { segments = gathering_end c.loop-e.invariant.0 c.loop-e-test.false; counted = adding_end c.loop-e.invariant.3 c.loop-e-test.false }

@@ -9,10 +9,15 @@ use Rattle.clip.specs.Code.{Segments}
 use Rattle.clip.proofs.Written.{segments_same}
 use Rattle.vector.proofs.Slices.{slice_count, slice_segs}
 use Rattle.line_cut.specs.LineCut.{loop_segments, segment_on_line}
-use Rattle.line_cut.proofs.LoopsCut.{loop_few, loop_segments_lent}
+use Rattle.line_cut.proofs.LoopsCut.{loop_defaulted_lent, loop_few, loop_segments_lent}
 use Rattle.line_cut.proofs.cut_loop.Given.{Over}
 use Rattle.line_cut.proofs.cut_loop.Goals as goal
 use Rattle.line_cut.proofs.cut_loop.Goals.{After-plane_section_segments-found}
+
+points_room : (d : Over) (c : After-plane_section_segments-found d) → 2 * length c.args.nodes.now ≤ length c.loop_points.new.out
+points_room d c =
+    let lengths = c.well_formed in
+    omega (arith, c.requires.0.for_polygon, c.loop_points.auto.out)
 
 -- the loop's segments stand in the scratch, and there is room for them
 flat_segments : (d : Over) (c : After-plane_section_segments-found d) → let found = c.plane_section_segments-found in
@@ -20,9 +25,7 @@ flat_segments : (d : Over) (c : After-plane_section_segments-found d) → let fo
     found.result.segments found.new.out
 flat_segments d c =
     let g = c.args in
-    let lengths = c.well_formed in
-    let room : 2 * length g.nodes.now ≤ length c.loop_points.new.out = omega (arith, c.requires.0.for_polygon, c.loop_points.auto.out) in
-    loop_segments_lent g.cutting.now.tol (all_rows 2 g.points.now) g.nodes.now c.axis-cut.ensures room c.loop_points.ensures
+    loop_segments_lent g.cutting.now.tol (all_rows 2 g.points.now) g.nodes.now c.axis-cut.ensures (points_room d c) c.loop_points.ensures
     c.plane_section_segments-found.ensures.segments
 
 flat_room : (d : Over) (c : After-plane_section_segments-found d) → let found = c.plane_section_segments-found in
@@ -55,4 +58,9 @@ returns d c =
     let found = c.plane_section_segments-found in
     let g = c.args in
     let are = slice_segs 2 found.result.segments found.new.out {m = 4 * found.result.segments} (omega arith) (flat_room d here).1 (omega arith) ∙ (flat_segments d here).are in
-    record { segments = segments_same (ap (λ l. segs 3 g.from g.numbers.now ++ map (segment_on_line g.cutting.now.plane) l) are) c.put_on_line.ensures }
+    record {
+      segments = segments_same (ap (λ l. segs 3 g.from g.numbers.now ++ map (segment_on_line g.cutting.now.plane) l) are) c.put_on_line.ensures;
+      counted =
+          loop_defaulted_lent g.cutting.now.tol (all_rows 2 g.points.now) g.nodes.now c.axis-cut.ensures (points_room d here)
+          c.loop_points.ensures found.ensures.counted;
+    }

@@ -9,8 +9,9 @@ returns d c =
     record {
       point =
           crossing (cut_of g.cut.now) g.a g.da g.b g.db
-          c.ratio-t.ensures
+          c.ratio-at.ensures.0
           c.minus.ensures
           c.scaled.ensures c.plus-p.ensures
           c.distance-d.ensures c.scaled-2.ensures c.minus-2.ensures;
+      defaulted = c.ratio-at.ensures.1;
     }

@@ -40,11 +40,11 @@ returns-then-left-lt2 d c =
     let m = c.clip_polygon-clipped in
     let r = c.without_closing-left in
     let kept = rw c.tol2.ensures at r.ensures.0 in
-    record { segments = few_points c.args.polygon.now c.requires.0 c.requires.2 m.auto.points m.ensures r.ensures.1 kept c.if-left-lt2.true c.args.out.now }
+    record { segments = few_points c.args.polygon.now c.requires.0 c.requires.2 m.auto.points m.ensures r.ensures.1 kept c.if-left-lt2.true c.args.out.now; counted = m.ensures.counted }
 
 pub returns : goal.returns
 returns d c =
     let m = c.clip_polygon-clipped in
     let r = c.without_closing-left in
     let kept = rw c.tol2.ensures at r.ensures.0 in
-    record { segments = many_points c.args.polygon.now c.requires.0 c.requires.2 m.auto.points m.ensures r.ensures.1 kept c.if-left-lt2.false c.segments.ensures }
+    record { segments = many_points c.args.polygon.now c.requires.0 c.requires.2 m.auto.points m.ensures r.ensures.1 kept c.if-left-lt2.false c.segments.ensures; counted = m.ensures.counted }

@@ -1,0 +1,31 @@
+-- The crossings by default of gathering, beside Gather.antt: those of the plane cut. Definitions and statements only; the theorems are in
+-- proofs/Defaulted.antt.
+use Rattle.std.specs.Prelude.{◌≡◌, List, ℕ, ◌*◌, ◌/◌, ◌≤◌, leb, Float}
+use Rattle.rows.specs.Outcome.{Outcome, found, and_then, unless}
+use Rattle.vector.specs.declared.Plane.{Plane}
+use Rattle.cell.specs.Read.{Polygon, Cell, corners_of, space_cell}
+use Rattle.stitch.specs.Entry.{Lengths, room}
+use Rattle.cuts.specs.Cuts.{Through, cut_cell, place_in}
+use Rattle.cuts.specs.Defaulted.{defaulted_on, told_count}
+use Rattle.cuts.specs.declared.Way.TheVariants.{Normal}
+use Rattle.plane_cut.specs.Defaulted.{plane_defaulted}
+
+-- 7: as for the segments
+abbrev pub defaulted_in : Float → ℕ → ℕ → List Polygon → Plane → Outcome ℕ
+defaulted_in tol a m ps f = unless 7 (leb (6 * m) a) (found (defaulted_on f tol ps))
+
+abbrev pub gather_defaulted : Cell → Through → Float → ℕ → Outcome ℕ
+gather_defaulted k g tol a = cut_cell (space_cell k) (place_in Normal g) (defaulted_in tol a)
+
+-- Whatever is handed over, at most as many are told as the cell has face corners, and at most 256.
+abbrev pub GatherDefaultedBound : Type 0
+GatherDefaultedBound =
+    (k : Cell) (g : Through) (tol : Float) (a : ℕ) → let n = told_count (gather_defaulted k g tol a) in
+    (n ≤ corners_of (space_cell k)) × (n ≤ 256)
+
+-- For every input, refusals included: the plane cut tells what gathering tells, where its buffers hold what m face corners may need.
+abbrev pub PlaneDefaultedByGathering : Type 0
+PlaneDefaultedByGathering =
+    (k : Cell) (g : Through) (tol : Float) (l : Lengths) → let m = corners_of (space_cell k) in
+    plane_defaulted k g tol l
+    ≡ and_then (gather_defaulted k g tol l.numbers) (λ n. unless 7 (room (6 * m) (3 * m / 2) (m / 2) l) (found n))
