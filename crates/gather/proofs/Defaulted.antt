@@ -1,8 +1,8 @@
 -- Gathering tells few crossings by default, and the plane cut tells the same. Assumes nothing.
-use mathlib.Core.Path.{◌≡◌, refl}
+use mathlib.Core.Path.{◌≡◌, refl, ap}
 use mathlib.Core.List.{List, flatten}
 use mathlib.Core.Bool.{◌&&◌}
-use Prim.Native.Nat.{ℕ, ◌*◌, ◌/◌, ◌≤◌}
+use Prim.Native.Nat.{◌*◌, ◌/◌}
 use native.Mathlib.Omega.{arith}
 use lib.Dec.{leb}
 use lib.Ieee.{Float}
@@ -12,13 +12,14 @@ use Rattle.rows.proofs.Outcomes.{sound_unless}
 use Rattle.vector.specs.declared.Plane.{Plane}
 use Rattle.cell.specs.Read.{Polygon, corners_of, space_cell}
 use Rattle.stitch.specs.Entry.{Lengths, room}
+use Rattle.cell.proofs.Alike.{alike_in_space}
 use Rattle.cuts.specs.Cuts.{cut_cell, place_in}
 use Rattle.cuts.specs.Defaulted.{defaulted_on}
 use Rattle.cuts.specs.declared.Way.TheVariants.{Normal}
 use Rattle.cuts.proofs.Cutting.{space_cut_sound}
 use Rattle.cuts.proofs.Defaulted.{Few, defaulted_few, told_has}
 use Rattle.plane_cut.specs.Defaulted.{defaulted_in as defaulted_in_room}
-use Rattle.gather.specs.Defaulted.{GatherDefaultedBound, PlaneDefaultedByGathering, defaulted_in, gather_defaulted}
+use Rattle.gather.specs.Defaulted.{AlikeDefaulted, GatherDefaultedBound, PlaneDefaultedByGathering, defaulted_in, gather_defaulted}
 use Rattle.gather.proofs.Stitching.{steps}
 
 pub gather_defaulted_bound : GatherDefaultedBound
@@ -42,3 +43,7 @@ by_cell tol l (found ps) (found f) =
 
 pub plane_defaulted_by_gathering : PlaneDefaultedByGathering
 plane_defaulted_by_gathering k g tol l = by_cell tol l (space_cell k) (place_in Normal g)
+
+-- only the corners matter
+pub alike_defaulted : AlikeDefaulted
+alike_defaulted k k' ps ps' r r' z g tol a = ap (λ c. cut_cell c (place_in Normal g) (defaulted_in tol a)) (alike_in_space k k' ps ps' r r' z)

@@ -4,6 +4,7 @@ use Rattle.std.specs.Prelude.{◌≡◌, List, ℕ, ◌*◌, ◌/◌, ◌≤◌,
 use Rattle.rows.specs.Outcome.{Outcome, found, and_then, unless}
 use Rattle.vector.specs.declared.Plane.{Plane}
 use Rattle.cell.specs.Read.{Polygon, Cell, corners_of, space_cell}
+use Rattle.cell.specs.Claims.{SameInSpace}
 use Rattle.stitch.specs.Entry.{Lengths, room}
 use Rattle.cuts.specs.Cuts.{Through, cut_cell, place_in}
 use Rattle.cuts.specs.Defaulted.{defaulted_on, told_count}
@@ -29,3 +30,9 @@ PlaneDefaultedByGathering =
     (k : Cell) (g : Through) (tol : Float) (l : Lengths) → let m = corners_of (space_cell k) in
     plane_defaulted k g tol l
     ≡ and_then (gather_defaulted k g tol l.numbers) (λ n. unless 7 (room (6 * m) (3 * m / 2) (m / 2) l) (found n))
+
+-- two accepted cells with equal type and the same corner coordinates, face by face, have as many, whatever their mid-side nodes hold
+abbrev pub AlikeDefaulted : Type 0
+AlikeDefaulted =
+    (k k' : Cell) (ps ps' : List Polygon) → space_cell k ≡ found ps → space_cell k' ≡ found ps' → SameInSpace k k'
+    → (g : Through) (tol : Float) (a : ℕ) → gather_defaulted k g tol a ≡ gather_defaulted k' g tol a

@@ -1,8 +1,7 @@
 -- The crossings by default of the line cut of a cell in space: how many there are at most, and how the loops add them up. Assumes nothing.
-use Rattle.std.specs.Prelude.{sum_by}
 use Rattle.std.proofs.lemmas.List.Sums.{sum_by-cons}
-use mathlib.Core.Path.{◌≡◌, refl, sym, ap, ◌∙◌}
-use mathlib.Core.List.{List, [], ◌∷◌, ◌++◌, map, flatten}
+use mathlib.Core.Path.{◌≡◌, sym, ap, ◌∙◌}
+use mathlib.Core.List.{List, [], ◌∷◌, map, flatten}
 use Prim.Native.Nat.{ℕ, ◌+◌, ◌-◌, ◌*◌, ◌≤◌, ◌<◌}
 use native.Mathlib.Omega.{arith}
 use lib.Dec.{leb}
@@ -12,7 +11,7 @@ use Rattle.rows.specs.Outcome.{found}
 use Rattle.rows.proofs.Outcomes.{sound_unless}
 use Rattle.vector.specs.Vector.{Vector}
 use Rattle.vector.specs.declared.Plane.{Plane}
-use Rattle.cell.specs.Read.{Polygon, corners_of, space_cell}
+use Rattle.cell.specs.Read.{corners_of, space_cell}
 use Rattle.clip.specs.Cell.{at_most, cell_segments, corners, cut_by}
 use Rattle.clip.proofs.Bound.{cell_bound}
 use Rattle.clip.proofs.Defaulted.{cell_defaulted_bound, defaulted_bound}
@@ -20,14 +19,14 @@ use Rattle.walk.specs.Walk.{point_at}
 use Rattle.stitch.specs.Code.{cut}
 use Rattle.stitch.specs.Stitch.{rule_of, stitched}
 use Rattle.stitch.proofs.Claim.{claim}
-use Rattle.cuts.specs.Cuts.{section_of}
-use Rattle.cuts.specs.Defaulted.{defaulted_on}
+use Rattle.cell.proofs.Alike.{alike_in_space}
+use Rattle.cuts.specs.Cuts.{cut_cell, place_in}
 use Rattle.cuts.specs.declared.Way.TheVariants.{Direction}
 use Rattle.cuts.proofs.Cutting.{space_cut_sound}
 use Rattle.cuts.proofs.Defaulted.{told_has}
 use Rattle.cuts.proofs.Sizes.{corners_in_all, found_few}
 use Rattle.line_cut.specs.LineCut.{axis}
-use Rattle.line_cut.specs.Defaulted.{DefaultedOnLineBound, LineDefaultedBound, defaulted_in, defaulted_on_line, line_defaulted}
+use Rattle.line_cut.specs.Defaulted.{AlikeDefaulted, DefaultedOnLineBound, LineDefaultedBound, defaulted_in, defaulted_on_line, line_defaulted}
 use Rattle.line_cut.specs.Defaulted.{loop_defaulted, loops_defaulted}
 use Rattle.line_cut.specs.Code.{on_line_defaulted}
 use Rattle.line_cut.proofs.LoopsCut.{LoopsCut, loop_from, loop_length, split}
@@ -91,3 +90,7 @@ counted_end {tol} {ps} {nodes} {ends} {i} {s} {g} u h =
     let e : loops_defaulted tol ps (cut s (drop i ends) (drop s nodes)) ≡ 0
     = ap (λ l. loops_defaulted tol ps (cut s l (drop s nodes))) (drop_of_length-le ends {i = i} h) in
     omega (arith, u.total)
+
+-- only the corners matter
+pub alike_defaulted : AlikeDefaulted
+alike_defaulted k k' ps ps' r r' z g tol a = ap (λ c. cut_cell c (place_in Direction g) (defaulted_in tol a)) (alike_in_space k k' ps ps' r r' z)

@@ -1,14 +1,14 @@
 -- The crossings by default of the line cut of a cell in space, beside LineCut.antt: those of the cell on a plane, and those made where the
 -- loops of that section are cut. Definitions and statements only; the theorems are in proofs/Defaulted.antt.
-use Rattle.std.specs.Prelude.{List, map, ℕ, ◌+◌, ◌*◌, ◌≤◌, leb, sum_by, Float}
+use Rattle.std.specs.Prelude.{◌≡◌, List, map, ℕ, ◌+◌, ◌*◌, ◌≤◌, leb, sum_by, Float}
 use Rattle.rows.specs.Outcome.{Outcome, found, unless}
 use Rattle.vector.specs.Vector.{Vector}
 use Rattle.vector.specs.declared.Plane.{Plane}
 use Rattle.cell.specs.Read.{Polygon, Cell, corners_of, space_cell}
+use Rattle.cell.specs.Claims.{SameInSpace}
 use Rattle.clip.specs.Cell.{corners}
 use Rattle.clip.specs.Defaulted.{defaulted}
 use Rattle.walk.specs.Walk.{point_at}
-use Rattle.stitch.specs.Stitch.{Answer}
 use Rattle.cuts.specs.Cuts.{Through, cut_cell, place_in, section_of}
 use Rattle.cuts.specs.Defaulted.{defaulted_on, told_count}
 use Rattle.cuts.specs.declared.Way.TheVariants.{Direction}
@@ -42,3 +42,9 @@ abbrev pub LineDefaultedBound : Type 0
 LineDefaultedBound =
     (k : Cell) (g : Through) (tol : Float) (a : ℕ) → let n = told_count (line_defaulted k g tol a) in
     (2 * n ≤ 5 * corners_of (space_cell k)) × (n ≤ 640)
+
+-- two accepted cells with equal type and the same corner coordinates, face by face, have as many, whatever their mid-side nodes hold
+abbrev pub AlikeDefaulted : Type 0
+AlikeDefaulted =
+    (k k' : Cell) (ps ps' : List Polygon) → space_cell k ≡ found ps → space_cell k' ≡ found ps' → SameInSpace k k'
+    → (g : Through) (tol : Float) (a : ℕ) → line_defaulted k g tol a ≡ line_defaulted k' g tol a

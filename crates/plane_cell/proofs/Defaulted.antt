@@ -1,4 +1,5 @@
 -- The line cut of a cell in the plane tells few crossings by default. Assumes nothing.
+use mathlib.Core.Path.{ap}
 use mathlib.Core.List.{flatten}
 use Prim.Native.Nat.{ℕ, ◌*◌, ◌≤◌}
 use native.Mathlib.Omega.{arith}
@@ -8,10 +9,12 @@ use Rattle.rows.specs.Outcome.{found}
 use Rattle.rows.proofs.Outcomes.{sound_unless}
 use Rattle.cell.specs.Types.{plane_type}
 use Rattle.cell.specs.Read.{corners_of, plane_cell, typed_in_plane}
+use Rattle.cell.proofs.Alike.{alike_in_plane}
+use Rattle.cuts.specs.Cuts.{cut_cell}
 use Rattle.cuts.proofs.Cutting.{cut_sound}
 use Rattle.cuts.proofs.Defaulted.{told_has}
 use Rattle.plane_cell.specs.PlaneCell.{line_through}
-use Rattle.plane_cell.specs.Defaulted.{PlaneCellDefaultedBound, defaulted_in, plane_cell_defaulted, polygon_defaulted}
+use Rattle.plane_cell.specs.Defaulted.{AlikeDefaulted, PlaneCellDefaultedBound, defaulted_in, plane_cell_defaulted, polygon_defaulted}
 use Rattle.plane_cell.proofs.Lines.{line_placed}
 use Rattle.plane_cell.proofs.Polygons.{few_defaulted}
 
@@ -24,3 +27,7 @@ plane_cell_defaulted_bound way k g tol a =
     (λ ps r l _.
     sound_unless 1 7 P 7 (leb (6 * length (flatten ps)) a) (found (polygon_defaulted l ps)) (omega arith) (omega arith)
     (λ _. few_defaulted k ps r l)))
+
+-- only the corners matter
+pub alike_defaulted : AlikeDefaulted
+alike_defaulted k k' ps ps' r r' z way g tol a = ap (λ c. cut_cell c (line_through way g tol) (defaulted_in a)) (alike_in_plane k k' ps ps' r r' z)

@@ -1,8 +1,9 @@
 -- The crossings by default of the line cut of a cell in the plane, beside PlaneCell.antt. Definitions and statements only; the theorems are
 -- in proofs/Defaulted.antt.
-use Rattle.std.specs.Prelude.{List, [], ◌∷◌, ℕ, ◌*◌, ◌≤◌, leb, Float}
+use Rattle.std.specs.Prelude.{◌≡◌, List, [], ◌∷◌, ℕ, ◌*◌, ◌≤◌, leb, Float}
 use Rattle.rows.specs.Outcome.{Outcome, found, unless}
 use Rattle.cell.specs.Read.{Polygon, Cell, corners_of, plane_cell}
+use Rattle.cell.specs.Claims.{SameInPlane}
 use Rattle.clip.specs.Clip.{Cut}
 use Rattle.clip.specs.Defaulted.{defaulted}
 use Rattle.cuts.specs.Cuts.{Through, cut_cell}
@@ -27,3 +28,9 @@ abbrev pub PlaneCellDefaultedBound : Type 0
 PlaneCellDefaultedBound =
     (way : W.Way) (k : Cell) (g : Through) (tol : Float) (a : ℕ) → let n = told_count (plane_cell_defaulted way k g tol a) in
     (n ≤ corners_of (plane_cell k)) × (n ≤ 256)
+
+-- two accepted cells with equal type and the same corner coordinates have as many, whatever their mid-side nodes hold
+abbrev pub AlikeDefaulted : Type 0
+AlikeDefaulted =
+    (k k' : Cell) (ps ps' : List Polygon) → plane_cell k ≡ found ps → plane_cell k' ≡ found ps' → SameInPlane k k'
+    → (way : W.Way) (g : Through) (tol : Float) (a : ℕ) → plane_cell_defaulted way k g tol a ≡ plane_cell_defaulted way k' g tol a

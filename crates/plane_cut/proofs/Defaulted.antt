@@ -1,18 +1,19 @@
 -- The plane cut tells few crossings by default. Assumes nothing.
-use mathlib.Core.Path.{ap, sym}
+use mathlib.Core.Path.{ap}
 use mathlib.Core.List.{flatten}
-use Prim.Native.Nat.{ℕ, ◌*◌, ◌/◌, ◌≤◌}
+use Prim.Native.Nat.{◌*◌, ◌/◌}
 use native.Mathlib.Omega.{arith}
 use lib.ListN.{length}
 use Rattle.rows.specs.Outcome.{found}
 use Rattle.rows.proofs.Outcomes.{sound_unless}
-use Rattle.cell.specs.Read.{corners_of, space_cell}
 use Rattle.stitch.specs.Entry.{room}
+use Rattle.cell.proofs.Alike.{alike_in_space}
+use Rattle.cuts.specs.Cuts.{cut_cell, place_in}
 use Rattle.cuts.specs.Defaulted.{defaulted_on}
 use Rattle.cuts.specs.declared.Way.TheVariants.{Normal}
 use Rattle.cuts.proofs.Cutting.{space_cut_sound}
 use Rattle.cuts.proofs.Defaulted.{Few, defaulted_few, told_has}
-use Rattle.plane_cut.specs.Defaulted.{PlaneDefaultedBound, defaulted_in, plane_defaulted}
+use Rattle.plane_cut.specs.Defaulted.{AlikeDefaulted, PlaneDefaultedBound, defaulted_in, plane_defaulted}
 
 pub plane_defaulted_bound : PlaneDefaultedBound
 plane_defaulted_bound k g tol l =
@@ -22,3 +23,7 @@ plane_defaulted_bound k g tol l =
     let m = length (flatten ps) in
     sound_unless 1 7 (Few k) 7 (room (6 * m) (3 * m / 2) (m / 2) l) (found (defaulted_on f tol ps)) (omega arith) (omega arith)
     (λ _. defaulted_few k ps r f tol)))
+
+-- only the corners matter
+pub alike_defaulted : AlikeDefaulted
+alike_defaulted k k' ps ps' r r' z g tol l = ap (λ c. cut_cell c (place_in Normal g) (defaulted_in tol l)) (alike_in_space k k' ps ps' r r' z)

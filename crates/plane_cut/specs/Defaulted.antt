@@ -1,9 +1,10 @@
 -- The crossings by default of the plane cut, beside PlaneCut.antt. Definitions and statements only; the theorems are in
 -- proofs/Defaulted.antt.
-use Rattle.std.specs.Prelude.{List, ℕ, ◌*◌, ◌/◌, ◌≤◌, Float}
+use Rattle.std.specs.Prelude.{◌≡◌, List, ℕ, ◌*◌, ◌/◌, ◌≤◌, Float}
 use Rattle.rows.specs.Outcome.{Outcome, found, unless}
 use Rattle.vector.specs.declared.Plane.{Plane}
 use Rattle.cell.specs.Read.{Polygon, Cell, corners_of, space_cell}
+use Rattle.cell.specs.Claims.{SameInSpace}
 use Rattle.stitch.specs.Entry.{Lengths, room}
 use Rattle.cuts.specs.Cuts.{Through, cut_cell, place_in}
 use Rattle.cuts.specs.Defaulted.{defaulted_on, told_count}
@@ -21,3 +22,9 @@ abbrev pub PlaneDefaultedBound : Type 0
 PlaneDefaultedBound =
     (k : Cell) (g : Through) (tol : Float) (l : Lengths) → let n = told_count (plane_defaulted k g tol l) in
     (n ≤ corners_of (space_cell k)) × (n ≤ 256)
+
+-- two accepted cells with equal type and the same corner coordinates, face by face, have as many, whatever their mid-side nodes hold
+abbrev pub AlikeDefaulted : Type 0
+AlikeDefaulted =
+    (k k' : Cell) (ps ps' : List Polygon) → space_cell k ≡ found ps → space_cell k' ≡ found ps' → SameInSpace k k'
+    → (g : Through) (tol : Float) (l : Lengths) → plane_defaulted k g tol l ≡ plane_defaulted k' g tol l

@@ -2,10 +2,10 @@
 -- crates answer so is `worked`, in proofs/Table.antt.
 use Rattle.std.specs.Prelude.{◌≡◌, true, false, cond, ℕ, ◌/◌, pos, negsuc, length, Float}
 use mathlib.Core.List.{List, [], ◌∷◌, flatten, map}
-use Rattle.std.specs.Float.{nan, fin, binary64}
+use Rattle.std.specs.Float.{nan, inf, fin, binary64}
 use Rattle.std.specs.Float.Ieee.{mul}
 use Rattle.root.specs.Root.{sqrt_of}
-use Rattle.vector.specs.Number.{f0, f1, minus_one, half}
+use Rattle.vector.specs.Number.{f0, f1, minus_one, half, least}
 use Rattle.vector.specs.Vector.{Vector, at, dot_from, least_aligned_axis, unit}
 use Rattle.vector.specs.Rows.{Seg, seg, segs}
 use Rattle.rows.specs.Outcome.{Outcome, refused, found}
@@ -15,7 +15,8 @@ use Rattle.cell.specs.Faces.{Face, faces_of, kept, separator, stretches}
 use Rattle.cell.specs.Read.{Cell, are_rows, cell, numbered_in_space, read_as}
 use Rattle.cell.specs.Claims.{faces_as}
 use Rattle.cell.specs.declared.types.Shape.TheVariants.{Phed}
-use Rattle.clip.specs.Clip.{plane_section_segments}
+use Rattle.clip.specs.Clip.{Cut, plane_section_segments}
+use Rattle.clip.specs.Defaulted.{defaulted}
 use Rattle.weld.specs.Weld.{becomes, edges_from, listed_edges, points_from, welded_points}
 use Rattle.walk.specs.Walk.{Walk, walks, walks_from}
 use Rattle.stitch.specs.Stitch.{Answer, area2_from, f2, signed_area, stitched_within}
@@ -33,6 +34,8 @@ pub data Asked : Type 0 where
   plane : ℕ → List ℕ → List Float → List Float → List Float → Asked
   -- gathering of the same, and of each face handed over alone
   gather : ℕ → List ℕ → List Float → List Float → List Float → Asked
+  -- the crossings by default of the triangle (0, a) (1, a) (2, b) on the line y = 0, with a tolerance
+  crossings : Float → Float → Float → Asked
   -- stitching alone, with a tolerance
   stitch : List Float → Float → Asked
   -- the tolerance of coordinates in space
@@ -51,6 +54,8 @@ pub data Answered : Type 0 where
   sectioned : Outcome Answer → List Float → Answered
   -- the segments of a cell, and those of each of its faces
   segments : Outcome (List Seg) → List (Outcome (List Seg)) → Answered
+  -- how many
+  counted : ℕ → Answered
   -- a section, and all walks
   stitched : Outcome Answer → List Shown → Answered
   number : Outcome Float → Answered
@@ -72,13 +77,16 @@ all_shown xs tol =
 
 -- by the definitions, in buffers of the sizes that docs/RULES.md gives for 24 face corners, or for the segments
 unfoldable pub answered : Asked → Answered
-unfolding flatten stretches kept space_type read_as are_rows least_aligned_axis unit dot_from tolerance plane_section_segments mul stitched_within points_from becomes edges_from walks_from area2_from
+unfolding flatten stretches kept space_type read_as are_rows least_aligned_axis unit dot_from tolerance plane_section_segments defaulted mul stitched_within points_from becomes edges_from walks_from area2_from
 answered (faces c) = positions (faces_of Phed c)
 answered (plane t c xs o n) = let r = plane_cut (cell t c xs) (through o n) f0 (record { numbers = 144; nodes = 36; ends = 12 }) in sectioned r (areas r)
 answered (gather t c xs o n) =
     let k = cell t c xs in
     let gathered : Cell → Outcome (List Seg) = λ k. gather_cut k (through o n) f0 144 in
     segments (gathered k) (map (λ f. gathered (face_alone k f)) (faces_as (numbered_in_space t) c))
+answered (crossings tol a b) =
+    let axis : Cut = record { origin = f0 ∷ f0 ∷ []; normal = f0 ∷ f1 ∷ []; tol = tol } in
+    counted (defaulted axis ((f0 ∷ a ∷ []) ∷ (f1 ∷ a ∷ []) ∷ (f2 ∷ b ∷ []) ∷ []))
 answered (stitch xs tol) =
     let s = length xs / 4 in
     stitched (stitch_alone xs tol (record { numbers = length xs; nodes = s; ends = s / 3 })) (all_shown xs tol)
@@ -112,6 +120,13 @@ three_quarters = fin false 3 (negsuc 1)
 
 abbrev minus_two : Float
 minus_two = fin true 1 (pos 1)
+
+-- 2^-1074 and its opposite
+abbrev tiny : Float
+tiny = fin false 1 (negsuc 1073)
+
+abbrev minus_tiny : Float
+minus_tiny = fin true 1 (negsuc 1073)
 
 -- the brick: HEX8 on the unit cube
 abbrev brick : List ℕ
@@ -187,6 +202,14 @@ table =
     -- 15
     ∷ case (gather 14 brick cube (level half) up)
     (segments (found sides) (map found ([] ∷ [] ∷ map (λ s. s ∷ []) sides)))
+    -- 16
+    ∷ case (crossings f0 tiny minus_tiny) (counted 2)
+    ∷ case (crossings f0 (fin false 1 (negsuc 1022)) (fin true 1 (negsuc 1022))) (counted 2)
+    ∷ case (crossings f0 least minus_tiny) (counted 0)
+    ∷ case (crossings f0 f1 nan) (counted 2)
+    ∷ case (crossings f0 (inf false) (inf true)) (counted 0)
+    ∷ case (crossings minus_one f1 nan) (counted 2)
+    ∷ case (crossings nan tiny minus_tiny) (counted 0)
     ∷ []
 
 -- the definitions answer each case as docs/RULES.md does
