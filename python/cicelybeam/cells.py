@@ -2,7 +2,7 @@
 from __future__ import annotations
 
 from collections.abc import Callable, Iterator
-from dataclasses import dataclass
+from dataclasses import dataclass, field
 
 import numpy as np
 
@@ -48,6 +48,7 @@ class Loops:
     cells: np.ndarray  # the cells that list an edge
     counts: np.ndarray  # for each of them: listed, in loops, flat, open
     cell_points: np.ndarray  # for each of them: the first of its points, and the one after the last
+    defaulted_by_cell: dict[int, int] = field(default_factory=dict)  # crossings that lie in the middle by default, of each cell with any, also of one that lists no edge
 
 
 class Cutter:
@@ -77,13 +78,13 @@ class Cutter:
         return self._calls(CUT, POLYHEDRON, faces.ravel(), starts, spare, None, lambda k: "a face")["listed"]
 
     def gathered(self, faces: Faces, name: Callable[[int], str]) -> tuple[np.ndarray, np.ndarray]:
-        """The number of segments of each face, handed over as a polyhedron of one face, and the segments, four numbers each.
+        """What the library tells of each face, handed over as a polyhedron of one face, and the segments, four numbers each.
 
         By theorem `FaceByFace` (crates/gather/specs/Gather.antt) those of a cell's faces, one after the other, are the cell's own.
         """
         numbers = Growing(np.float64, 1 << 16)
         told = self._calls(GATHER, POLYHEDRON, faces.nodes, faces.starts, [numbers], None, name)
-        return told["segments"].astype(np.int64), numbers.written().reshape(-1, 4)
+        return told, numbers.written().reshape(-1, 4)
 
     def _calls(self, loop: CellLoop, number: int, conn: np.ndarray, starts: np.ndarray, lent: list[Growing],
                progress: Callable[[int], None] | None, name: Callable[[int], str]) -> np.ndarray:
@@ -112,6 +113,8 @@ class Cutter:
     def loops(self) -> Loops:
         """All that was written, with points numbered from the first of all cells."""
         told, cells = (np.concatenate(parts) for parts in (self.told, self.cells))
+        some = np.flatnonzero(told["defaulted"])
+        defaulted = dict(zip(cells[some].tolist(), told["defaulted"][some].tolist()))
         kept = told["listed"] > 0
         told, cells = told[kept], cells[kept]
         numbers, nodes, ends = (buffer.written() for buffer in self.written)
@@ -121,7 +124,7 @@ class Cutter:
         nodes = nodes + np.repeat(first_point, sizes[1])
         counts = np.stack([told[name].astype(np.int64) for name in COUNTS], axis=1)
         return Loops(numbers.reshape(-1, 2), nodes, ends, np.repeat(cells, sizes[2]), cells, counts,
-                     np.stack([first_point, first_point + sizes[0]], axis=1))
+                     np.stack([first_point, first_point + sizes[0]], axis=1), defaulted)
 
 
 def cells_with_gaps(cutter: Cutter, block: Block | Polyhedra, cells: np.ndarray, listed: np.ndarray, sides: Sides) -> np.ndarray:

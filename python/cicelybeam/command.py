@@ -23,7 +23,7 @@ exit status:
   1  there is no cut or no output: the file, the cell or the plane was refused, and the message says why
   2  the command line is wrong
   3  area is lost: a piece is not drawn, or a cell that the plane passes through lacks an edge; or the area jumps
-     at this plane (--allow-undrawn accepts it, --shift looks for a plane next to it)
+     at this plane; or a crossing is guessed (--allow-undrawn accepts it, --shift looks for a plane next to it)
   4  cells of a type that is not cut may reach the cut (--allow-uncut accepts it)
   130  interrupted by Ctrl-C; no output is left half written
 """
@@ -49,6 +49,8 @@ terms:
   in loops  edges of walks that close and have an area: the polygons that are drawn
   flat      edges of walks that close without an area above the squared tolerance, not drawn
   open      edges of walks that do not close, not drawn
+  guessed   crossings that lie in the middle of their edges by default: the distances of an edge's ends from the plane
+            differ by NaN or by no more than 2^-1022
 """
 
 LINE = """\
@@ -124,7 +126,7 @@ def _parser() -> argparse.ArgumentParser:
         _add_cut(command, way)
         _add_outputs(command)
         _add_picture(command)
-        command.add_argument("--allow-undrawn", action=_Flag, help="exit status 0 also where area is lost")
+        command.add_argument("--allow-undrawn", action=_Flag, help="exit status 0 also where area is lost or a crossing is guessed")
         command.add_argument("--allow-uncut", action=_Flag, help="exit status 0 also where the cut may reach cells of types that are not cut")
         command.add_argument("--quiet", action=_Flag, help="print warnings only")
     plane.add_argument("--shift", action=_Flag, help=(

@@ -21,7 +21,7 @@ class Section(ctypes.Structure):
 
     _fields_ = [
         (name, c_uint32)
-        for name in ("refusal", "points", "nodes", "loops", "listed", "in_loops", "flat", "open")
+        for name in ("refusal", "points", "nodes", "loops", "listed", "in_loops", "flat", "open", "defaulted")
     ]
 
 
@@ -31,7 +31,7 @@ SECTION = np.dtype([(name, np.uint32) for name, _ in Section._fields_])  # the s
 class Line(ctypes.Structure):
     """struct cicelybeam_line"""
 
-    _fields_ = [("refusal", c_uint32), ("segments", c_uint32)]
+    _fields_ = [("refusal", c_uint32), ("segments", c_uint32), ("defaulted", c_uint32)]
 
 
 LINE = np.dtype([(name, np.uint32) for name, _ in Line._fields_])

@@ -14,7 +14,9 @@ from .mesh import Mesh, of_meshio
 from .place import ABOVE, BELOW, Sides, Vector
 from .plane import PlaneCut, cut_plane
 from .publish import Published
-from .record import below_own, counted, extent, number, some, vector, were
+from .record import (
+    DefaultedCell, below_own, counted, defaulted_because, defaulted_cells, defaulted_where, extent, mend_defaulted, number, some, vector, were,
+)
 from .refusal import MeshError, Refused
 from .version import VERSION
 
@@ -49,6 +51,8 @@ class LineRecord:
     touching: list[int]  # cells that the line may reach and that the plane only touches
     without_segment: list[int]  # cells that the line passes through and that have no segment
     dropped: list[str]  # what meshio says of cells that it left out while reading
+    defaulted: int  # crossings that lie in the middle of their edges by default: in space of faces, and of loops where the line cuts them
+    defaulted_cells: list[DefaultedCell]  # the cells with them
     warnings: list[str] = field(default_factory=list)
 
     @property
@@ -68,6 +72,8 @@ class LineRecord:
             found.append((3, f"{number(len(self.undrawn), 'cell')} that the line may reach and whose section is not whole{some(self.undrawn)}"))
         if self.without_segment:
             found.append((3, f"{number(len(self.without_segment), 'cell')} that the line passes through, without a segment{some(self.without_segment)}"))
+        if self.defaulted:
+            found.append((3, defaulted_where(self.defaulted_cells)))
         if any(self.not_cut_reached.values()):
             found.append((4, f"the line may meet cells of types that are not cut: {counted(self.not_cut_reached)}"))
         found += [(4, f"meshio left cells out while reading: {remark}") for remark in self.dropped]
@@ -89,6 +95,8 @@ class LineRecord:
         if self.undrawn or self.without_segment:
             start += (f"; {number(len(self.undrawn), 'cell')} that the line may reach with a section that is not whole, and "
                       f"{len(self.without_segment)} that it passes through without a segment")
+        if self.defaulted:
+            start += "; " + defaulted_because(self.defaulted_cells, "the line" if len(self.origin) == 2 else "the line or from the plane that holds it")
         if any(self.not_cut_reached.values()):
             start += f"; not cut: {counted(self.not_cut_reached)}"
         return start + "."
@@ -112,6 +120,7 @@ class LineRecord:
             ("stretches", f"{len(self.stretches)}{': ' if stretches else ''}{stretches}"),
             ("not whole", f"{number(len(self.undrawn), 'cell')} that the line may reach{some(self.undrawn)}"),
             ("no segment", f"{number(len(self.without_segment), 'cell')} passed through{some(self.without_segment)}"),
+            ("guessed", defaulted_where(self.defaulted_cells)),
             *(("WARNING", warning) for warning in self.warnings),
         ]
         return "\n".join([*(f"{name:<18}{value}" for name, value in lines), "", self.sentence()])
@@ -127,10 +136,16 @@ class LineCut(Published):
     segments: np.ndarray
     segment_cell: np.ndarray
     lengths: np.ndarray
+    defaulted_by_cell: dict[int, int]  # crossings that lie in the middle by default, of each cell with any, also of one without a segment
     record: LineRecord
 
     def __len__(self) -> int:
         return len(self.segments)
+
+    @property
+    def defaulted(self) -> int:
+        """How many crossings lie in the middle of their edge by default, in all cells."""
+        return sum(self.defaulted_by_cell.values())
 
     def __repr__(self) -> str:
         return f"<LineCut of {self.mesh.source}: {number(len(self), 'segment')}, length covered {self.record.covered:.12g}>"
@@ -170,26 +185,29 @@ def cut_line(
     near = place.nearest_on_line(start, along, found.centre() or start)
     sides = place.sides(found.points, near, normal, tol)
     kept = [np.flatnonzero(sides.reached(block)) if leave_out else np.arange(len(block)) for block in found.blocks]
-    segments, owner = _segments(found, kept, call, room, (near, along, tol), progress)
+    segments, owner, defaulted = _segments(found, kept, call, room, (near, along, tol), progress)
     if found.dimension == 3:
         section = cut_plane(found, near, frame.normal, tol, leave_out=leave_out)
         lacking = _lacking_in_space(section, place.sides(found.points, near, frame.v, tol), frame.v, owner, tol)
     else:
         lacking = [], [], _lacking_in_plane(found, sides, owner)
     lengths = np.linalg.norm(segments[:, 1] - segments[:, 0], axis=1)
-    record = _record(found, start, along, tol, own, segments, owner, lengths, lacking)
-    return LineCut(found, start, along, segments, owner, lengths, record)
+    record = _record(found, start, along, tol, own, segments, owner, lengths, lacking, defaulted)
+    return LineCut(found, start, along, segments, owner, lengths, defaulted, record)
 
 
 def _segments(
     mesh: Mesh, kept: list[np.ndarray], call: Callable, room: int, by: tuple[Vector, Vector, float],
     progress: Callable[[int, int], None] | None,
-) -> tuple[np.ndarray, np.ndarray]:
-    """The library called for each cell that is kept: the segments, and the cell of each. `room` is the buffer's, a face corner."""
+) -> tuple[np.ndarray, np.ndarray, dict[int, int]]:
+    """The library called for each cell that is kept: the segments, the cell of each, and the crossings by default of cells with any.
+
+    `room` is the buffer's, a face corner.
+    """
     start, along, tol = by
     o, d = floats(start), floats(along)
     cut = (mesh.points.ctypes.data, mesh.points.size, o.ctypes.data, o.size, d.ctypes.data, d.size, tol)
-    numbers, owner = Growing(np.float64, 1 << 14), []
+    numbers, owner, defaulted = Growing(np.float64, 1 << 14), [], {}
     done, total = 0, sum(map(len, kept))
     for block, cells in zip(mesh.blocks, kept):
         conn, starts = block.handed(cells)
@@ -201,10 +219,12 @@ def _segments(
                 raise Refused(s.refusal, f"{mesh.source}: {mesh.name(block.first + index)}")
             numbers.used += 2 * mesh.dimension * s.segments
             owner += [block.first + index] * s.segments
+            if s.defaulted:
+                defaulted[block.first + index] = s.defaulted
             done += 1
             if progress:
                 progress(done, total)
-    return numbers.written().reshape(-1, 2, mesh.dimension), np.array(owner, dtype=np.int64)
+    return numbers.written().reshape(-1, 2, mesh.dimension), np.array(owner, dtype=np.int64), defaulted
 
 
 def _lacking_in_space(
@@ -240,7 +260,7 @@ def _lacking_in_plane(mesh: Mesh, sides: Sides, owner: np.ndarray) -> list[int]:
 
 def _record(
     mesh: Mesh, origin: Vector, direction: Vector, tol: float, own: float, segments: np.ndarray, owner: np.ndarray,
-    lengths: np.ndarray, lacking: tuple[list[int], list[int], list[int]],
+    lengths: np.ndarray, lacking: tuple[list[int], list[int], list[int]], defaulted: dict[int, int],
 ) -> LineRecord:
     reached: dict[str, int] = {}
     for name, dimension, count, _ in mesh.others:
@@ -254,6 +274,7 @@ def _record(
     record = LineRecord(
         VERSION, mesh.source, list(origin), list(direction), tol, own, mesh.extent, mesh.total, mesh.types(), mesh.not_cut(), reached,
         len(np.unique(owner)), len(segments), float(lengths.sum()), covered, stretches, _curved(mesh, np.unique(owner)), *lacking, mesh.dropped,
+        sum(defaulted.values()), defaulted_cells(mesh, defaulted),
     )
     record.warnings = [f"meshio says: {remark}" for remark in mesh.remarks]
     if not len(segments):
@@ -262,6 +283,8 @@ def _record(
         record.warnings.append(below_own(tol, own, "line"))
     if not record.all_drawn:
         record.warnings.append(f"pieces of the line may be missing in {len({*record.undrawn, *record.without_segment})} cells")
+    if record.defaulted:
+        record.warnings.append(mend_defaulted(record.defaulted))
     if any(reached.values()):
         record.warnings.append(f"the line may meet cells of types that are not cut: {counted(reached)}")
     return record

@@ -267,11 +267,13 @@ def _section(cut: PlaneCut, look: Look) -> Sheet:
     if traced:
         _draw_traces(sheet, cut.traces(), project, look)
     _draw_undrawn(sheet, cut, points, 0.0 if traced or look.edges == "off" else rings.middling_size())
-    _mark(sheet, findings(cut), project)
+    _mark(sheet, findings(cut), lambda found: project(_near(found)))
     record = cut.record
     words = f"{number(record.polygons, 'polygon')}, " + (f"{number(record.traces or 0, 'trace')}, " if traced else "") + f"area {record.area:.6g}"
     if record.lost_area:
         words += f", about {record.lost_area:.2g} lost"
+    if record.defaulted:
+        words += f", {number(record.defaulted, 'crossing')} guessed"
     sheet.title = words if look.title is None else look.title
     return sheet
 
@@ -346,20 +348,24 @@ MARKS = {  # the beginning of a reason: marker, colour, fill, size, words
     "touched": ("o", INK, "white", 2.5, "touched, no area lost"),
     "cells of this type": ("s", INK, "none", 6.0, "not cut"),
     "the area jumps": ("^", RED, "none", 5.0, "the area jumps"),
+    "guessed": ("D", RED, "none", 6.5, "crossing guessed"),
     "": ("x", RED, RED, 5.0, "not whole"),
 }
 
 
-def _mark(sheet: Sheet, found: list[Finding], project: Callable[[np.ndarray], np.ndarray]) -> None:
-    """A mark for each cell where something is missing, and what it means in the legend."""
-    by_mark: dict[str, list[list[float]]] = {}
+def _near(found: list[Finding]) -> np.ndarray:
+    return np.array([finding.near for finding in found])
+
+
+def _mark(sheet: Sheet, found: list[Finding], place_of: Callable[[list[Finding]], np.ndarray]) -> None:
+    """A mark for each cell where something is missing or a guess, and what it means in the legend."""
+    by_mark: dict[str, list[Finding]] = {}
     for finding in found:
         begins = next(start for start in MARKS if finding.reason.startswith(start))
-        by_mark.setdefault(begins, []).append(finding.near)
+        by_mark.setdefault(begins, []).append(finding)
     for begins, (marker, colour, fill, size, words) in MARKS.items():
-        places = by_mark.get(begins)
-        if places:
-            at = project(np.array(places))
+        if begins in by_mark:
+            at = place_of(by_mark[begins])
             sheet.show(at)
             shrunk = max(0.15, min(1.0, (200 / len(at)) ** 0.5))  # thousands of marks must not hide the section
             look = {"marker": marker, "color": colour, "markerfacecolor": fill, "linestyle": "none"}
@@ -378,7 +384,7 @@ def _line_in_plane(cut: LineCut, look: Look) -> Sheet:
         sheet.axes.add_collection(LineCollection(cut.segments, colors=colour, linewidths=width, zorder=4), autolim=False)
     sheet.handles += sheet.axes.plot(*cut.segments.reshape(-1, 2).T, ".", color=INK, markersize=4, zorder=4,
                                      label=f"on the line: {number(len(cut), 'segment')}")
-    _mark(sheet, findings(cut), np.asarray)
+    _mark(sheet, findings(cut), _near)
     sheet.title = _line_title(cut) if look.title is None else look.title
     return sheet
 
@@ -403,7 +409,7 @@ def _profile(cut: LineCut, look: Look) -> Sheet:
     sheet.axes.plot(ends.ravel(), tall.ravel(), "|", color=INK, markersize=6)
     sheet.show(bars.reshape(-1, 2))
     at = {f.cell: height for f, height in zip(missing, heights[len(ends) :])}
-    _mark(sheet, missing, lambda near: np.column_stack([place_of(near), [at[f.cell] for f in missing][: len(near)]]))
+    _mark(sheet, missing, lambda found: np.column_stack([place_of(_near(found)), [at[f.cell] for f in found]]))
     sheet.title = _line_title(cut) if look.title is None else look.title
     return sheet
 

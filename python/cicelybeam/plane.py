@@ -44,6 +44,7 @@ class PlaneCut(Published):
     cells: np.ndarray  # the cells that list an edge
     counts: np.ndarray  # for each of them: listed, in loops, flat, open
     cell_points: np.ndarray  # for each of them: the first of its points, and the one after the last
+    defaulted_by_cell: dict[int, int]  # crossings that lie in the middle by default, of each cell with any, also of one that lists no edge
     near: Frame  # the same plane, from the point of it that is nearest the mesh's middle; cells are cut from there
     asked: Asked
     record: PlaneRecord
@@ -84,6 +85,15 @@ class PlaneCut(Published):
     def in_space(self) -> np.ndarray:
         """The points in space, three numbers each; an origin far away costs them no digit."""
         return self.near.in_space(self.near_points)
+
+    @property
+    def defaulted(self) -> int:
+        """How many crossings lie in the middle of their edge by default, in all cells."""
+        return sum(self.defaulted_by_cell.values())
+
+    def defaulted_of(self, cells: np.ndarray) -> np.ndarray:
+        """The same for each of these cells."""
+        return np.array([self.defaulted_by_cell.get(cell, 0) for cell in cells.tolist()], dtype=np.int64)
 
     def cell_area(self) -> np.ndarray:
         """The area drawn for each of `cells`."""
@@ -198,7 +208,8 @@ def cut_plane(
 def _made(section: Section) -> PlaneCut:
     rings, loops = section.rings, section.loops
     cut = PlaneCut(section.mesh, section.frame, rings.points, rings.nodes, rings.ends, rings.cell, rings.area, rings.hole, rings.outer,
-                   section.side, loops.cells, loops.counts, loops.cell_points, section.near, section.asked, None)  # type: ignore[arg-type]
+                   section.side, loops.cells, loops.counts, loops.cell_points, loops.defaulted_by_cell, section.near, section.asked,
+                   None)  # type: ignore[arg-type]
     cut.record = plane_record(cut, section)
     return cut
 

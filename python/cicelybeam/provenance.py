@@ -65,9 +65,12 @@ def proved(cut: PlaneCut | LineCut) -> list[tuple[str, str]]:
         edges = ("Proved: the segments that a cell gives are those of the rules of the port, for any cell, line and tolerance, or a "
                  "refusal by number.")
     traces = [("Proved: the segments of a cell's faces, each face handed over alone, are those that its section is stitched from.", "Promises")]
+    defaulted = [("Proved: each cell's number of crossings that lie in the middle of their edges by default is that of the rules of the port.",
+                  "Promises")]
     return [
         (edges, "The auditor's two questions" if isinstance(cut, PlaneCut) else "Promises"),
         *(traces if isinstance(cut, PlaneCut) and cut.record.traces is not None else []),
+        *(defaulted if cut.record.defaulted else []),
         ("Proved: a cell with all corners on one side of the cut, beyond the tolerance, has no edge in it, so that it is right to "
          "leave it out.", "Promises"),
         ("Not proved: an edge that a face does not give is in no count; the package looks for such faces and tells them, by tests "

@@ -44,6 +44,15 @@ class UndrawnCell:
 
 
 @dataclass
+class DefaultedCell:
+    """A cell with crossings that lie in the middle of their edges by default, and how many."""
+
+    cell: int
+    type: str
+    defaulted: int
+
+
+@dataclass
 class PlaneRecord:
     """The record of a plane cut. `print` it, or take `as_dict`."""
 
@@ -81,6 +90,8 @@ class PlaneRecord:
     in_loops: int
     flat: int
     open: int
+    defaulted: int  # crossings that lie in the middle of their edges by default, also of edges that are not listed
+    defaulted_cells: list[DefaultedCell]  # the cells with them
     with_undrawn: int  # cells with a flat or open edge
     touching_cells: int  # of the cells in undrawn, those with no area lost
     undrawn: list[UndrawnCell]
@@ -133,6 +144,8 @@ class PlaneRecord:
             found.append((3, "the area is too large for a number, or not one: scale the mesh"))
         if self.not_finite:
             found.append((3, f"{number(len(self.not_finite), 'cell')} with a corner coordinate that is not finite{some(self.not_finite)}"))
+        if self.defaulted:
+            found.append((3, defaulted_where(self.defaulted_cells)))
         if any(self.not_cut_reached.values()):
             found.append((4, f"the plane may reach cells of types that are not cut: {counted(self.not_cut_reached)}"))
         found += [(4, f"meshio left cells out while reading: {remark}") for remark in self.dropped]
@@ -192,6 +205,8 @@ class PlaneRecord:
             found.append(f"{number(len(self.within_tolerance), 'cell')} wholly within the tolerance of the plane, without a section")
         if self.not_finite:
             found.append(f"{number(len(self.not_finite), 'cell')} with corner coordinates that are not finite")
+        if self.defaulted:
+            found.append(defaulted_because(self.defaulted_cells, "the plane"))
         if self.dropped:
             found.append("the mesh has cells that meshio left out while reading")
         if any(self.not_cut_reached.values()):
@@ -228,6 +243,7 @@ class PlaneRecord:
             ("passed through", f"{number(self.crossed, 'cell')}; {number(self.with_edges, 'cell')} with an edge"),
             *traces,
             ("edges", f"{self.listed} listed: {self.in_loops} in loops, {self.flat} flat, {self.open} open"),
+            ("guessed", defaulted_where(self.defaulted_cells)),
             ("drawn", f"{number(self.polygons, 'polygon')}" + (f" with {number(self.holes, 'hole')}" if self.holes else "")),
             ("area", f"{self.area:.12g}"),
         ]
@@ -296,6 +312,43 @@ def some(cells: list[int]) -> str:
     return ": " + ", ".join(map(str, cells[:8])) + (", ..." if len(cells) > 8 else "")
 
 
+def defaulted_cells(mesh: Mesh, by_cell: dict[int, int]) -> list[DefaultedCell]:
+    """The cells with crossings that lie in the middle by default, in their order."""
+    cells = sorted(by_cell)
+    return [DefaultedCell(cell, str(name), by_cell[cell]) for cell, name in zip(cells, mesh.type_of(np.array(cells, dtype=np.int64)))]
+
+
+def defaulted_in_words(count: int) -> str:
+    """
+    >>> defaulted_in_words(0), defaulted_in_words(1)
+    ('0 crossings lie in the middle by default', '1 crossing lies in the middle by default')
+    """
+    return f"{number(count, 'crossing')} {'lies' if count == 1 else 'lie'} in the middle by default"
+
+
+def defaulted_where(cells: list[DefaultedCell]) -> str:
+    """How many crossings lie in the middle by default, and in which cells.
+
+    >>> defaulted_where([DefaultedCell(7, "tetra", 3)])
+    '3 crossings lie in the middle by default, in 1 cell: 7'
+    """
+    told = defaulted_in_words(sum(cell.defaulted for cell in cells))
+    return told + (f", in {number(len(cells), 'cell')}{some([cell.cell for cell in cells])}" if cells else "")
+
+
+def defaulted_because(cells: list[DefaultedCell], cut: str) -> str:
+    """The same for a methods section, with the reason; `cut` is what distances are from."""
+    count = sum(cell.defaulted for cell in cells)
+    lie, edges, places = ("lies", "its edge", "its place is a guess") if count == 1 else ("lie", "their edges", "their places are guesses")
+    return (f"{number(count, 'crossing')} in {number(len(cells), 'cell')} {lie} in the middle of {edges} by default, because the distances of "
+            f"an edge's ends from {cut} differ by NaN or by no more than 2^-1022, so that {places}")
+
+
+def mend_defaulted(count: int) -> str:
+    return (f"{defaulted_in_words(count)}, as the distances of an edge's ends differ by NaN or by no more than 2^-1022: scale the mesh where "
+            "coordinates are as small as 1e-308, and mend nodes that are NaN or infinite")
+
+
 def plane_record(cut: PlaneCut, section: Section) -> PlaneRecord:
     mesh, frame, asked = cut.mesh, cut.frame, cut.asked
     reached, rings, net = section.reached, section.rings, section.net
@@ -309,6 +362,7 @@ def plane_record(cut: PlaneCut, section: Section) -> PlaneRecord:
         area=net.area, repeated_area=net.repeated, coincident_polygons=net.coincident, doubled_polygons=net.doubled,
         lost_area=lost, lost_share=lost / (net.area + lost) if lost else 0.0,
         jump_area=section.jumps.area, jump_cells=section.jumps.cells, listed=listed, in_loops=in_loops, flat=flat, open=opened,
+        defaulted=cut.defaulted, defaulted_cells=defaulted_cells(mesh, cut.defaulted_by_cell),
         with_undrawn=int((cut.counts[:, 2:] > 0).any(axis=1).sum()), touching_cells=sum(cell.touching for cell in undrawn), undrawn=undrawn,
         crossed_without_edge=reached.no_edge.tolist(), crossed_face_without_segment=reached.no_segment.tolist(),
         within_tolerance=reached.within.tolist(), not_finite=reached.not_finite.tolist(),
@@ -392,6 +446,8 @@ def _warnings(record: PlaneRecord, mesh: Mesh) -> list[str]:
                      "the mesh has cells twice; they are counted once")
     if record.not_finite:
         found.append("cells with NaN or infinite corner coordinates are cut as docs/RULES.md says, a NaN distance as outside")
+    if record.defaulted:
+        found.append(mend_defaulted(record.defaulted))
     if any(record.not_cut_reached.values()):
         found.append(f"cells of types that are not cut may reach the plane: {counted(record.not_cut_reached)}")
     return found

@@ -11,6 +11,7 @@ import meshio
 import numpy as np
 
 from .areas import area_by, in_two
+from .cells import COUNTS
 from .groups import check_by, group_name
 from .line import LineCut
 from .onpoints import point_values
@@ -23,7 +24,7 @@ from .undrawn import findings, undrawn_edges
 from .vtp import traces_vtp, vtp
 
 PLANE_COLUMNS = ("polygon", "cell", "type", "group", "area", "hole_of", "side", "point", "x", "y", "z", "u", "v")
-CELL_COLUMNS = ("cell", "type", "group", "listed", "in_loops", "flat", "open", "area", "x", "y", "z")
+CELL_COLUMNS = ("cell", "type", "group", "listed", "in_loops", "flat", "open", "defaulted", "area", "x", "y", "z")
 TRACE_COLUMNS = ("cell", "type", "group", "face", "u1", "v1", "u2", "v2", "x1", "y1", "z1", "x2", "y2", "z2")
 OF_RING = ("area", "side", "hole_of")  # what a ring has beside its cell's data
 SIDES = {0: "", 1: "above", -1: "below"}
@@ -157,9 +158,9 @@ def rings(cut: PlaneCut) -> list[dict]:
 def cell_rows(cut: PlaneCut) -> list[tuple]:
     """A row for each cell that lists an edge; x, y, z is the mean of the points that the cut gives for it."""
     return [
-        (cell, str(name), group, *counts, area, *middle) for cell, name, group, counts, area, middle in zip(
+        (cell, str(name), group, *counts, defaulted, area, *middle) for cell, name, group, counts, defaulted, area, middle in zip(
             cut.cells.tolist(), cut.mesh.type_of(cut.cells), group_names(cut, cut.cells), cut.counts.tolist(),
-            cut.cell_area().tolist(), cut.cell_middle_in_space().tolist())
+            cut.defaulted_of(cut.cells).tolist(), cut.cell_area().tolist(), cut.cell_middle_in_space().tolist())
     ]
 
 
@@ -202,12 +203,12 @@ def write_traces(traces: Traces, path: Path) -> None:
 def cell_data(cut: PlaneCut, cells: np.ndarray, others: tuple[str, ...] = OF_RING) -> dict[str, np.ndarray]:
     """Of each of these cells: its number, its counts, and the mesh's fields, with mesh: before a name that these or others have.
 
-    A cell may have a trace and list no edge, where the ends of the trace become one point: its counts are 0.
+    A cell may have a trace and list no edge, where the ends of the trace become one point: its counts of edges are 0.
     """
     at = np.searchsorted(cut.cells, cells)
     listed = np.append(cut.cells, -1)[at] == cells
     counts = np.where(listed[:, None], np.append(cut.counts, [[0, 0, 0, 0]], axis=0)[at], 0)
-    data = {"cell": cells.astype(np.int64), **{name: counts[:, k] for k, name in enumerate(("listed", "in_loops", "flat", "open"))}}
+    data = {"cell": cells.astype(np.int64), **{name: counts[:, k] for k, name in enumerate(COUNTS)}, "defaulted": cut.defaulted_of(cells)}
     own = {*data, *others}
     for name, values in cut.mesh.fields.items():
         shown = name

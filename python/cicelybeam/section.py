@@ -119,7 +119,7 @@ class Section:
 
     def drawn(self, looked_at: int) -> Drawn:
         """How much is drawn. Where something is not drawn in more cells than are to be looked at, area counts as lost."""
-        if self.jumps.area or len(self.reached.not_finite):
+        if self.jumps.area or len(self.reached.not_finite) or self.loops.defaulted_by_cell:
             return Drawn.NOT_ALL
         if not len(self.doubtful):
             return Drawn.ALL

@@ -1,4 +1,5 @@
-"""Where something is missing: the edges that were not drawn, and every cell with such edges, with area lost, or not cut."""
+"""Where something is missing or a guess: the edges that were not drawn, and every cell with such edges, with area lost, with a
+crossing in the middle by default, or not cut."""
 from __future__ import annotations
 
 from dataclasses import asdict, dataclass
@@ -8,6 +9,7 @@ import numpy as np
 from . import place
 from .line import LineCut
 from .plane import PlaneCut
+from .record import defaulted_in_words
 
 Pair = tuple[int, int]
 Point = place.Vector
@@ -16,7 +18,7 @@ Segment = tuple[Point, Point]
 
 @dataclass(frozen=True)
 class Finding:
-    """A cell where something is missing: why, and near which point in space."""
+    """A cell where something is missing or a guess: why, and near which point in space."""
 
     cell: int
     type: str
@@ -34,7 +36,7 @@ class Finding:
 
 
 def findings(cut: PlaneCut | LineCut) -> list[Finding]:
-    """Every cell where something is missing; those that lose no area last."""
+    """Every cell where something is missing or a guess; those that lose no area last."""
     return _of_plane(cut) if isinstance(cut, PlaneCut) else _of_line(cut)
 
 
@@ -44,14 +46,31 @@ def _of_plane(cut: PlaneCut) -> list[Finding]:
     if record.jump_area:
         found += [_plain(cut, cell, "the area jumps: a face that is not flat has a corner in the plane") for cell in record.jump_cells]
     found += [_plain(cut, cell, "a corner coordinate is not finite") for cell in record.not_finite]
-    found += not_cut(cut)
+    found += _defaulted(cut) + not_cut(cut)
     return found + [Finding(u.cell, u.type, f"touched: {u.what}", 0.0, _middle(u.points)) for u in record.undrawn if u.touching]
 
 
 def _of_line(cut: LineCut) -> list[Finding]:
     record = cut.record
     found = [_plain(cut, cell, "its section is not whole") for cell in record.undrawn if cell not in set(record.touching)]
-    return found + [_plain(cut, cell, "passed through, and there is no segment") for cell in record.without_segment]
+    found += [_plain(cut, cell, "passed through, and there is no segment") for cell in record.without_segment]
+    return found + _defaulted(cut)
+
+
+def _defaulted(cut: PlaneCut | LineCut) -> list[Finding]:
+    """Cells with crossings in the middle by default, near what the cut gives for them; where that is nothing or not finite, near their corners."""
+    if not cut.record.defaulted_cells:
+        return []
+    if isinstance(cut, PlaneCut):
+        points, owner = cut.in_space(), np.repeat(cut.cells, np.diff(cut.cell_points, axis=1).ravel())
+    else:
+        points, owner = cut.segments.reshape(-1, cut.mesh.dimension), np.repeat(cut.segment_cell, 2)
+    found = []
+    for each in cut.record.defaulted_cells:
+        given = points[: len(owner)][owner == each.cell]
+        near = given.mean(axis=0) if len(given) and np.isfinite(given).all() else cut.mesh.middle(each.cell)
+        found.append(Finding(each.cell, each.type, f"guessed: {defaulted_in_words(each.defaulted)}", None, near.tolist()))
+    return found
 
 
 def _plain(cut: PlaneCut | LineCut, cell: int, reason: str) -> Finding:
@@ -148,7 +167,7 @@ def _away(point: Point, plane: place.Frame) -> float:
 
 
 def _crossing(a: Point, da: float, b: Point, db: float, plane: place.Frame) -> Point:
-    t = da / (da - db) if abs(da - db) > np.finfo(float).tiny else 0.5
+    t = da / (da - db) if abs(da - db) > np.finfo(float).tiny else 0.5  # by default, which the library counts
     point = tuple(x + t * (y - x) for x, y in zip(a, b))
     away = _away(point, plane)
     return tuple(x - away * n for x, n in zip(point, plane.normal))

@@ -224,8 +224,8 @@ def test_every_reason_is_told():
     mesh = cicelybeam.of_meshio(meshio.Mesh(points, [("hexahedron", [list(range(8)), list(range(8, 16))])]))
     mesh.others.append(("hexahedron9", 3, 1, np.arange(16, 24)[None]))
     reasons = cicelybeam.cut_plane(mesh, (0, 0, 0), (0, 0, 1)).record.reasons
-    assert [status for status, _ in reasons] == [3, 3, 4]
-    assert [any(word in why for _, why in reasons) for word in ("area lost", "not finite", "1 hexahedron9")] == [True] * 3
+    assert [status for status, _ in reasons] == [3, 3, 3, 4]
+    assert [word in why for word, (_, why) in zip(("area lost", "not finite", "by default", "1 hexahedron9"), reasons)] == [True] * 4
 
 
 @pytest.mark.parametrize("origin,normal,distance", [((0, 0, 7), (0, 0, 1), 6), ((9, 9, -2), (0, 0, 5), 2), ((3, 0, 0), (1, 1, 0), 0.5**0.5)])

@@ -68,7 +68,7 @@ def by_the_rules(cut, face) -> np.ndarray:
 
 def check(cut) -> None:
     """Bit by bit: a cell's traces are those of the whole cell, a face's those of the face alone and of the rules, and stitched they are
-    the plane cut."""
+    the plane cut, but for `defaulted`, which gathering tells."""
     traces, at = cut.traces(), 0
     for block in cut.mesh.blocks:
         for k in range(len(block)):
@@ -89,7 +89,9 @@ def check(cut) -> None:
                     assert alone.tobytes() == by_the_rules(cut, face).ravel().tobytes()
             s, *stitched = stitch_call(numbers, cut.asked.tol)
             t, *whole = one_call(cut.mesh, block.kind.number, conn, *call)
-            assert [getattr(s, name) for name, _ in Section._fields_] == [getattr(t, name) for name, _ in Section._fields_]
+            others = [name for name, _ in Section._fields_ if name != "defaulted"]
+            assert [getattr(s, name) for name in others] == [getattr(t, name) for name in others]
+            assert (s.defaulted, t.defaulted) == (0, told.defaulted)
             assert [a.tobytes() for a in stitched] == [a.tobytes() for a in whole]
     assert at == len(traces)
     order = np.lexsort((traces.face, traces.cell))
