@@ -1,0 +1,406 @@
+"""Crossings that lie in the middle by default: against a plain model, cell by cell and face by face; and wherever they are told."""
+import json
+import math
+
+import meshio
+import numpy as np
+import pytest
+from conftest import CUBE, box
+from hypothesis import given, settings
+from hypothesis import strategies as st
+from test_calls import one_call
+from test_figure import figure, legend_of
+from test_files import parts, run
+from test_page import parsed, words
+from test_traces import gather_call, stitch_call
+
+import cicelybeam
+import sample
+from cicelybeam import place, report
+from cicelybeam.library import Line, library
+from cicelybeam.section import Asked, Section
+from cicelybeam.shift import LOOKED_AT, Drawn
+from cicelybeam.undrawn import findings
+
+LEAST = 2.0**-1022
+TETRA = np.array([[0.0, 0, 0], [1, 0, 0], [0, 1, 0], [0, 0, 1]])
+LOW = np.array([[-2, -2, -3e-310], [2, 0, 1e-310], [0, 2, 1e-310], [0, 0, 1e-310]])  # the plane z = 0 divides three edges at 3/4, by default at 1/2
+
+
+def tetra(*cells) -> meshio.Mesh:
+    """Tetrahedra by their corners, none of them shared."""
+    return meshio.Mesh(np.concatenate(cells), [("tetra", np.arange(4 * len(cells)).reshape(-1, 4))])
+
+
+def spoilt(value: float, node: int = 3, axis: int = 2) -> np.ndarray:
+    points = TETRA - [0, 0, 0.25]
+    points[node, axis] = value
+    return points
+
+
+def by_default(corners, origin, normal, tol: float) -> int:
+    """How many crossings of a polygon lie in the middle by default, in plain Python."""
+    away = []
+    for corner in corners:
+        total = 0.0
+        for x, o, n in zip(map(float, corner), origin, normal):
+            total = total + (x - o) * n
+        away.append(total)
+    above, below = any(d > tol for d in away), any(d < -tol for d in away)
+    if len(away) < 3 or not (above or below):
+        return 0
+    away = [d if above else -d for d in away]
+    pairs = [(a, b) for a, b in zip(away, away[1:] + away[:1]) if (a >= -tol) != (b >= -tol)]
+    return sum(not abs(a - b) > LEAST for a, b in pairs)
+
+
+def by_faces(mesh: cicelybeam.Mesh, origin, normal, tol: float) -> dict[tuple[int, int], int]:
+    """The same of each cell and face."""
+    found = {}
+    for block in mesh.blocks:
+        for k in range(len(block)):
+            for number, face in enumerate(block.faces(k)):
+                count = by_default(mesh.points[face], origin, normal, tol)
+                if count:
+                    found[block.first + k, number] = count
+    return found
+
+
+def check(cut) -> None:
+    """Against the plain model, at every call that tells the number."""
+    expected = by_faces(cut.mesh, cut.near.origin, cut.near.normal, cut.asked.tol)
+    by_cell: dict[int, int] = {}
+    for (cell, _), count in expected.items():
+        by_cell[cell] = by_cell.get(cell, 0) + count
+    traces = cut.traces()
+    assert cut.defaulted_by_cell == by_cell and traces.defaulted_by_face == expected
+    assert cut.defaulted == cut.record.defaulted == traces.defaulted == sum(expected.values())
+    assert [(each.cell, each.defaulted) for each in cut.record.defaulted_cells] == sorted(by_cell.items())
+    for block in cut.mesh.blocks:
+        for k in range(len(block)):
+            conn, _ = block.handed(np.array([k]))
+            call = cut.mesh, block.kind.number, conn, cut.near.origin, cut.asked.normal, cut.asked.tol
+            told, numbers = gather_call(*call)
+            assert told.defaulted == one_call(*call)[0].defaulted == by_cell.get(block.first + k, 0)
+            assert stitch_call(numbers, cut.asked.tol)[0].defaulted == 0  # stitching alone has no crossing
+
+
+# ---- cells in space
+
+
+def test_a_crossing_is_guessed():
+    """The corners of the section lie in the middle of three edges, each an edge of two faces."""
+    cut = cicelybeam.cut_plane(tetra(LOW), (0, 0, 0), (0, 0, 1), 0)
+    assert sorted(cut.points.tolist()) == [[-1, -1], [-1, 0], [0, -1]] and cut.record.area == 0.5
+    assert cut.defaulted_by_cell == {0: 6} and cut.traces().defaulted_by_face == {(0, 0): 2, (0, 2): 2, (0, 3): 2}
+    check(cut)
+
+
+@pytest.mark.parametrize("upper,most,number", [(2.0**-1024, 0.0, 6), (np.nextafter(2.0**-1024, 1), 1.0, 0)])
+def test_the_greatest_difference_that_is_guessed(upper, most, number):
+    """It is 2^-1022; where the distances differ by a last digit more, the crossing is divided."""
+    cell = LOW * [1, 1, 0] + [[0, 0, -3 * 2.0**-1024], *3 * [[0, 0, upper]]]
+    assert (upper + 3 * 2.0**-1024 == LEAST) == bool(number)
+    cut = cicelybeam.cut_plane(tetra(cell), (0, 0, 0), (0, 0, 1), 0)
+    assert cut.traces().ends.max() == pytest.approx(most, rel=1e-12) and cut.defaulted == number
+    check(cut)
+
+
+def test_a_crossing_whose_point_is_skipped():
+    """The squares of distances between points underflow, so that of all points of a face the first alone is kept."""
+    for tol in (None, 0):
+        cut = cicelybeam.cut_plane(tetra(TETRA * 1e-310), (0, 0, 0.25e-310), (0, 0, 1), tol)
+        assert cut.record.listed == len(cut.traces()) == 0 and cut.defaulted == 6
+        check(cut)
+
+
+@pytest.mark.parametrize("cell,number", [
+    (spoilt(np.nan), 6),  # the other corners are on one side, so that three faces have two crossings each
+    (spoilt(np.nan, axis=0), 6),  # 0 times NaN is NaN
+    (spoilt(np.inf), 0),  # the difference is infinite, by which is divided
+    (spoilt(np.inf, axis=0), 6), (spoilt(-np.inf, axis=1), 6),  # 0 times infinity is NaN
+    (TETRA * [1, 1, 0] + [[0, 0, -np.inf], [0, 0, np.inf], [0, 0, np.inf], [0, 0, np.inf]], 0),  # infinity less its negative is infinity
+    (TETRA * [1, 1, 0] + [[np.inf, 0, -np.inf], [0, 0, 1], [0, 0, np.inf], [0, 0, 1]], 6),
+], ids=str)
+def test_coordinates_that_are_not_finite(cell, number):
+    cut = cicelybeam.cut_plane(tetra(cell), (0, 0, 0), (0, 0, 1), 0)
+    check(cut)
+    assert cut.defaulted == number
+    assert cut.record.not_finite == [0] and dict(cut.record.reasons)[3] and ("by default" in cut.record.sentence()) == bool(number)
+
+
+@pytest.mark.parametrize("normal,tol", [((0, 0, 1), 0), ((0, 0, -3), 1e-9), ((1, 2, 3), 0), ((1, 0, 0), 0.05)])
+def test_ordinary_meshes_have_none(normal, tol):
+    for mesh in (box(2), box(2, "tetra"), sample.plate(), sample.broken()):
+        cut = cicelybeam.cut_plane(mesh, (0.1, 0.2, 0.3), normal, tol)
+        assert len(cut.traces()) and cut.defaulted == cut.traces().defaulted == 0
+        assert cut.defaulted_by_cell == cut.traces().defaulted_by_face == {} and cut.record.defaulted_cells == []
+
+
+numbers = st.sampled_from([0.0, 1.0, -1.0, 0.4, 1e-310, -3e-310, 2.0**-1023, -(2.0**-1023), LEAST, -3 * LEAST, 5e-324, np.nan, np.inf, -np.inf, 1e308, -1e308])
+normals = st.sampled_from([(0, 0, 1), (0, -2, 0), (1, 0, 0), (1, 2, 3), (-1, 0, 1)])
+
+
+@settings(max_examples=400)
+@given(st.sampled_from(["tetra", "wedge", "hexahedron", "pyramid"]), st.lists(numbers, min_size=24, max_size=24), normals,
+       st.sampled_from([0.0, 0.0, 1e-310, LEAST, 0.5, 1e300]), st.booleans(), st.integers(0, 1))
+def test_any_cells(kind, given_numbers, normal, tol, all_odd, leave_out):
+    """A cell with any numbers, or with some amid a mesh."""
+    mesh = box(1, kind)
+    odd = np.array(given_numbers).reshape(8, 3)
+    mesh.points = odd if all_odd else np.where(np.isin(np.arange(8), (1, 6))[:, None], odd, mesh.points)
+    cut = cicelybeam.cut_plane(mesh, (0, 0, 0), normal, tol, leave_out=bool(leave_out))
+    check(cut)
+
+
+@given(st.lists(st.integers(0, 11), min_size=0, max_size=9), st.lists(numbers, min_size=12, max_size=12))
+def test_faces_of_any_length(face, heights):
+    """Also those of under three nodes, which are dropped, and those that pass through a node twice."""
+    angles = np.arange(12) * math.pi / 6
+    mesh = meshio.Mesh(np.stack([np.cos(angles), np.sin(angles), heights], axis=1), [("polyhedron12", [[np.array(face, dtype=int), np.array([0, 4, 8])]])])
+    cut = cicelybeam.cut_plane(cicelybeam.of_meshio(mesh), (0, 0, 0), (0, 0, 1), 0)
+    found = by_default(cut.mesh.points[face], (0, 0, 0), (0, 0, 1), 0) + by_default(cut.mesh.points[[0, 4, 8]], (0, 0, 0), (0, 0, 1), 0)
+    assert cut.defaulted == cut.traces().defaulted == found == one_call(
+        cut.mesh, 18, cut.mesh.blocks[0].handed(np.array([0]))[0], cut.near.origin, (0, 0, 1), 0)[0].defaulted
+
+
+def test_the_most_that_a_cell_can_have():
+    """As many as it has face corners, 256 for one face of them."""
+    heights = np.tile([1e-310, -1e-310], 128)
+    points = np.stack([np.cos(np.arange(256) / 41), np.sin(np.arange(256) / 41), heights], axis=1)
+    cut = cicelybeam.cut_plane(meshio.Mesh(points, [("polyhedron256", [[np.arange(256)]])]), (0, 0, 0), (0, 0, 1), 0)
+    assert cut.defaulted_by_cell == {0: 256}
+
+
+def test_a_plane_that_guesses_does_not_draw_all():
+    """So no shift leads to it, though every edge is drawn."""
+    mesh = cicelybeam.of_meshio(tetra(LOW))
+    found = Section(mesh, Asked((0.0, 0.0, 0.0), (0.0, 0.0, 1.0), 0.0, cicelybeam.slice_tolerance(mesh.points)))
+    assert not len(found.doubtful) and found.drawn(LOOKED_AT) == Drawn.NOT_ALL
+    above = tetra(LOW + [[0, 0, -1], *3 * [[0, 0, 1]]])
+    assert Section(cicelybeam.of_meshio(above), found.asked).drawn(LOOKED_AT) == Drawn.ALL
+
+
+# ---- lines
+
+
+def quad(y: float) -> meshio.Mesh:
+    return meshio.Mesh(np.array([[0, -3 * y], [1, -3 * y], [1, y], [0, y]]), [("quad", [[0, 1, 2, 3]])])
+
+
+@pytest.mark.parametrize("by,way", [("direction", (1, 0)), ("normal", (0, 2))])
+@pytest.mark.parametrize("points,number", [
+    (quad(1e-310).points, 2), (quad(1.0).points, 0), (quad(1e-310).points * 1e-3, 2), ([[0, 0], [1, -1], [1, np.nan], [0, 1]], 1),
+    ([[0, -np.inf], [1, -1], [1, np.inf], [0, 1]], 0), ([[np.inf, -1], [1, -1], [1, 1], [0, 1]], 1)], ids=str)
+def test_cells_in_the_plane(by, way, points, number):
+    """By one call each, by direction and by normal. Of two crossings each, some are divided."""
+    points = np.ascontiguousarray(points, dtype=float)
+    origin, given, conn, written = np.zeros(2), np.array(way, dtype=float), np.arange(4), np.empty(24)
+    told: Line = getattr(library(), f"cicelybeam_plane_cell_by_{by}")(
+        8, conn.ctypes.data, 4, points.ctypes.data, 8, origin.ctypes.data, 2, given.ctypes.data, 2, 0.0, written.ctypes.data, 24)
+    assert (told.refusal, told.defaulted) == (0, number) and number == by_default(points, (0, 0), (0, 1), 0)
+
+
+@given(st.lists(numbers, min_size=12, max_size=12), st.sampled_from([(1, 0), (0, -1), (1, 1)]), st.sampled_from([0.0, 1e-310, 0.5]))
+def test_plane_meshes(given_numbers, direction, tol):
+    """The sum over the cells."""
+    mesh = meshio.Mesh(np.array(given_numbers).reshape(6, 2), [("quad", [[0, 1, 2, 3]]), ("triangle", [[3, 4, 5], [1, 0, 4]])])
+    cut = cicelybeam.cut_line(mesh, (0, 0), direction, tol)
+    near = place.nearest_on_line((0.0, 0.0), tuple(map(float, direction)), cut.mesh.centre() or (0.0, 0.0))
+    normal = place.normal_of_line(tuple(map(float, direction)))
+    found = {k: by_default(cut.mesh.points[cell], near, normal, tol) for k, cell in enumerate(([0, 1, 2, 3], [3, 4, 5], [1, 0, 4]))}
+    assert cut.defaulted_by_cell == {k: count for k, count in found.items() if count}
+    assert cut.defaulted == cut.record.defaulted == sum(found.values())
+    assert [(each.cell, each.type) for each in cut.record.defaulted_cells] == [(k, ("quad", "triangle", "triangle")[k]) for k in found if found[k]]
+
+
+@pytest.mark.parametrize("y,faces", [(1.0, 0), (1e-310, 6)])
+@pytest.mark.parametrize("z,loops", [(1.0, 0), (1e-310, 2)])
+def test_a_line_in_space_counts_both_kinds(y, faces, z, loops):
+    """Six crossings of the faces with the plane y = 0 that holds the line, and two of the section's loop with the line."""
+    cell = np.array([[0, -3 * y, 0], [2, y, -4 * z], [4, y, 6 * z], [6, y, -2 * z]])
+    line = cicelybeam.cut_line(tetra(cell), (0, 0, 0), (1, 0, 0), 0)
+    assert line.defaulted == line.record.defaulted == faces + loops and line.defaulted_by_cell == ({0: faces + loops} if faces + loops else {})
+    section = cicelybeam.cut_plane(tetra(cell), (0, 0, 0), (0, -1, 0), 0)
+    assert section.defaulted == faces and section.record.polygons == 1
+    ring = section.in_space()[section.nodes]
+    assert by_default(ring[:, [0, 2]], (0, 0), (0, 1), 0) == loops and len(line) == 1
+
+
+# ---- what a reader is told
+
+
+def three() -> meshio.Mesh:
+    """A cell with crossings that are guessed, an ordinary one, and one with a corner that is NaN."""
+    return tetra(LOW, TETRA + [4, 0, -0.25], spoilt(np.nan) + [8, 0, 0])
+
+
+@pytest.fixture
+def path(tmp_path):
+    three().write(tmp_path / "three.vtu")
+    return tmp_path / "three.vtu"
+
+
+PLANE = ["--origin", "0,0,0", "--normal", "z", "--tolerance", 0]
+WHY = "12 crossings lie in the middle by default, in 2 cells: 0, 2"
+SENTENCE = ("; 12 crossings in 2 cells lie in the middle of their edges by default, because the distances of an edge's ends from the plane differ by "
+            "NaN or by no more than 2^-1022, so that their places are guesses.")
+MEND = ("12 crossings lie in the middle by default, as the distances of an edge's ends differ by NaN or by no more than 2^-1022: scale the mesh where "
+        "coordinates are as small as 1e-308, and mend nodes that are NaN or infinite")
+
+
+def lines_of(record) -> dict[str, str]:
+    return {line[:18].strip(): line[18:] for line in str(record).split("\n\n")[0].split("\n")}
+
+
+def test_the_record():
+    cut = cicelybeam.cut_plane(three(), (0, 0, 0), (0, 0, 1), 0)
+    text = str(cut.record)
+    names = [line[:18].strip() for line in text.split("\n")]
+    assert names[names.index("edges") + 1 : names.index("drawn")] == ["guessed"] and f"\nguessed           {WHY}\n" in text
+    assert f"WARNING           {MEND}" in text.split("\n") and cut.record.sentence().endswith(SENTENCE)
+    assert [why for why in cut.record.reasons if "by default" in why[1]] == [(3, WHY)] and not cut.record.nothing_lost
+    assert {cell.cell: cell.defaulted for cell in cut.record.defaulted_cells} == {0: 6, 2: 6}
+
+
+def test_a_single_crossing_is_told_in_the_singular():
+    record = cicelybeam.cut_plane(meshio.Mesh([[0, 0, 0], [1, 0, -1], [1, 1, np.nan], [0, 1, 1]], [("polyhedron4", [[np.arange(4)]])]), (0, 0, 0), (0, 0, 1), 0).record
+    assert lines_of(record)["guessed"] == "1 crossing lies in the middle by default, in 1 cell: 0"
+    assert "; 1 crossing in 1 cell lies in the middle of its edge by default, because " in record.sentence()
+    assert record.sentence().endswith(", so that its place is a guess.")
+
+
+def test_a_record_without_any():
+    """The line says so, and nothing else speaks of it."""
+    cut = cicelybeam.cut_plane(box(2), (0, 0, 0.3), (0, 0, 1))
+    line = cicelybeam.cut_line(box(2), (0, 0.3, 0.3), (1, 0, 0))
+    for record in (cut.record, line.record):
+        assert lines_of(record)["guessed"] == "0 crossings lie in the middle by default" and str(record).count("default") == 1
+        assert record.defaulted == 0 and record.defaulted_cells == [] and record.reasons == record.warnings == []
+        assert not any(word in record.sentence() for word in ("default", "guess"))
+    assert cut.record.sentence().endswith("with a total area of 1, and no listed edge is left undrawn.") and not findings(cut) + findings(line)
+
+
+def test_the_command(path, capsys):
+    """The line, the warning, the reason with its status, and the option that accepts it; with traces the same."""
+    for more in ([], ["--show", "traces"]):
+        assert run("plane", path, *PLANE, *more) == 3
+        said = capsys.readouterr()
+        assert f"\nguessed           {WHY}\n" in said.out and f"\nWARNING           {MEND}\n" in said.out and said.out.endswith(SENTENCE + "\n")
+        assert f"cicelybeam: exit status 3: {WHY} (--allow-undrawn accepts it)\n" in said.err
+    assert run("plane", path, *PLANE, "--allow-undrawn", "--quiet") == 0
+    assert f"cicelybeam: {MEND}\n" in capsys.readouterr().err
+
+
+def test_the_only_reason(tmp_path, capsys):
+    """All edges are drawn, and the area rests on a guess."""
+    tetra(LOW, TETRA + [4, 0, -0.25], LOW + [8, 0, 0]).write(tmp_path / "a.vtu")
+    assert run("plane", tmp_path / "a.vtu", *PLANE) == 3
+    said = capsys.readouterr()
+    assert "\nedges             9 listed: 9 in loops, 0 flat, 0 open\n" in said.out and f"\nguessed           {WHY}\n" in said.out
+    assert said.err.split("\n")[0] == f"cicelybeam: exit status 3: {WHY} (--allow-undrawn accepts it)" and said.err.count("exit status") == 1
+    assert "with a total area of 1.28125, and no listed edge is left undrawn" + SENTENCE in said.out
+    assert run("plane", tmp_path / "a.vtu", *PLANE, "--allow-undrawn") == 0
+
+
+def test_json(path, tmp_path):
+    assert run("plane", path, *PLANE, "--report", tmp_path / "a.json", "--quiet") == 3
+    found = json.loads((tmp_path / "a.json").read_text())
+    assert found["defaulted"] == 12 and found["defaulted_cells"] == [{"cell": k, "type": "tetra", "defaulted": 6} for k in (0, 2)]
+    assert [(row["cell"], row["listed"], row["defaulted"]) for row in found["by_cell"]] == [(0, 3, 6), (1, 3, 0)]
+    assert [3, WHY] in found["reasons"] and found["summary"].endswith(SENTENCE) and found["nothing_lost"] is False and found["all_cut"] is True
+    assert [(each["cell"], each["reason"]) for each in found["missing"] if "default" in each["reason"]] == [
+        (k, "guessed: 6 crossings lie in the middle by default") for k in (0, 2)]
+    assert any("middle of their edges by default is that of the rules" in sentence for sentence in found["proved"])
+
+
+def test_json_without_any(tmp_path):
+    for cut in (cicelybeam.cut_plane(box(1), (0, 0, 0.5), (0, 0, 1)), cicelybeam.cut_line(box(1), (0, 0.5, 0.5), (1, 0, 0))):
+        cut.write(tmp_path / "a.json")
+        found = json.loads((tmp_path / "a.json").read_text())
+        assert (found["defaulted"], found["defaulted_cells"], found["missing"]) == (0, [], []) and len(found["proved"]) == 4
+    assert [row["defaulted"] for row in report.as_dict(cicelybeam.cut_plane(box(1), (0, 0, 0.5), (0, 0, 1)))["by_cell"]] == [0]
+
+
+def test_fields_of_files(tmp_path):
+    """A cell's number, with its counts; a field of the mesh that has the name is carried over."""
+    mesh = three()
+    mesh.cell_data = {"defaulted": [np.array([7.0, 8.0, 9.0])]}
+    cut = cicelybeam.cut_plane(mesh, (0, 0, 0), (0, 0, 1), 0)
+    cut.write(tmp_path / "a.vtp")
+    cut.write(tmp_path / "a.vtu")
+    cut.traces().write(tmp_path / "t.vtp")
+    for name in ("a.vtp", "t.vtp"):
+        data = parts(tmp_path / name)["CellData"]
+        assert set(zip(data["cell"].tolist(), data["defaulted"].tolist(), data["mesh:defaulted"].tolist())) == {(0, 6, 7), (1, 0, 8)}
+    assert sorted(np.concatenate(meshio.read(tmp_path / "a.vtu").cell_data["defaulted"]).tolist()) == [0, 6]
+
+
+def test_the_page(path, tmp_path):
+    assert run("plane", path, *PLANE, "--report", tmp_path / "a.html", "--quiet") == 3
+    text = (tmp_path / "a.html").read_text()
+    parsed(text)
+    said = words(text)
+    assert f"Not whole: {WHY} (exit status 3)." in said and f"guessed {WHY} " in said and SENTENCE[2:] in said
+    assert said.count("guessed: 6 crossings lie in the middle by default") == 2 and "is that of the rules of the port" in said
+    cicelybeam.cut_plane(box(1), (0, 0, 0.5), (0, 0, 1)).write(tmp_path / "b.html")
+    assert "is that of the rules of the port" not in words((tmp_path / "b.html").read_text())
+
+
+def test_the_picture():
+    cut = cicelybeam.cut_plane(three(), (0, 0, 0), (0, 0, 1), 0)
+    for show in ("polygons", "traces"):
+        found = figure(cut, show=show)
+        assert "crossing guessed: 2 cells" in legend_of(found) and found.texts[0].get_text().endswith(", 12 crossings guessed")
+        (marks,) = [line for line in found.axes[0].lines if line.get_marker() == "D"]
+        assert np.stack(marks.get_data(), axis=1) == pytest.approx(np.array([[-2 / 3, -2 / 3], cut.mesh.middle(2)[:2]]))  # the first has a section
+    whole = figure(cicelybeam.cut_plane(box(1), (0, 0, 0.5), (0, 0, 1)))
+    assert not any("guessed" in text for text in [*legend_of(whole), whole.texts[0].get_text()])
+
+
+def three_along_a_line() -> meshio.Mesh:
+    """A cell whose crossings are guessed, an open brick that the line passes through, and a whole one."""
+    low = [[0, -3e-310, 0], [2, 1e-310, -4], [4, 1e-310, 6], [6, 1e-310, -2]]
+    points = np.concatenate([low, CUBE + [10, -0.5, -0.5], CUBE + [20, -0.5, -0.5]])
+    faces = [[0, 3, 2, 1], [0, 1, 5, 4], [2, 3, 7, 6], [1, 2, 6, 5], [4, 5, 6, 7], [3, 0, 4, 7]]
+    return meshio.Mesh(points, [("polyhedron4", [[np.array(f) for f in ([0, 1, 3], [1, 2, 3], [2, 0, 3], [0, 2, 1])]]),
+                                ("polyhedron8", [[k + np.array(f) for f in kept] for k, kept in ((4, faces[:4]), (12, faces))])])
+
+
+def test_the_line_command(tmp_path, capsys):
+    three_along_a_line().write(tmp_path / "a.vtu")
+    command = ["line", tmp_path / "a.vtu", "--origin", "0,0,0", "--direction", "x", "--tolerance", 0]
+    assert run(*command, "--report", tmp_path / "a.html", "--picture", tmp_path / "a.svg") == 3
+    said = capsys.readouterr()
+    why = "6 crossings lie in the middle by default, in 1 cell: 0"
+    assert f"\nguessed           {why}\n" in said.out and f"\nWARNING           {MEND.replace('12', '6')}\n" in said.out
+    assert ("; 6 crossings in 1 cell lie in the middle of their edges by default, because the distances of an edge's ends from the line or from the plane "
+            "that holds it differ by NaN or by no more than 2^-1022, so that their places are guesses.\n") in said.out
+    assert f"cicelybeam: exit status 3: {why} (--allow-undrawn accepts it)\n" in said.err
+    assert f"Not whole: {why} (exit status 3)." in words((tmp_path / "a.html").read_text()) and "crossing guessed: 1 cell" in (tmp_path / "a.svg").read_text()
+    assert run(*command, "--allow-undrawn", "--report", "-") == 0
+    found = json.loads(capsys.readouterr().out)
+    assert found["defaulted"] == 6 and found["defaulted_cells"] == [{"cell": 0, "type": "polyhedron4", "defaulted": 6}]
+    assert {each["cell"]: each["reason"] for each in found["missing"]} == {
+        1: "its section is not whole", 0: "guessed: 6 crossings lie in the middle by default"}
+
+
+def test_a_plane_mesh_is_told_of_the_line_alone():
+    record = cicelybeam.cut_line(quad(1e-310), (0, 0), (1, 0), 0).record
+    assert lines_of(record)["guessed"] == "2 crossings lie in the middle by default, in 1 cell: 0"
+    assert "because the distances of an edge's ends from the line differ by NaN" in record.sentence() and (3, lines_of(record)["guessed"]) in record.reasons
+
+
+def test_marks_of_a_profile_stand_at_their_cells():
+    """Marks of two kinds, each at the height of its own cell."""
+    cut = cicelybeam.cut_line(three_along_a_line(), (0, 0, 0), (1, 0, 0), 0)
+    found = figure(cut, colour="cell")
+    marks = {line.get_marker(): (line.get_xdata().tolist(), line.get_ydata().tolist()) for line in found.axes[0].lines}
+    assert marks["D"] == ([pytest.approx(cut.segments[0, :, 0].mean())], [0.0]) and marks["x"] == ([cut.mesh.middle(1)[0]], [1.0])
+
+
+def test_help_names_it(capsys):
+    with pytest.raises(SystemExit):
+        run("plane", "--help")
+    said = capsys.readouterr().out
+    assert "\n  guessed   " in said and "or a crossing is guessed" in said
