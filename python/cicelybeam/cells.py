@@ -41,7 +41,7 @@ class Loops:
     rounding; where it meets itself at a point, a part of it may run clockwise.
     """
 
-    points: np.ndarray
+    points: np.ndarray  # of the cells that list an edge
     nodes: np.ndarray
     ends: np.ndarray
     cell: np.ndarray  # the cell of each loop
@@ -111,19 +111,22 @@ class Cutter:
         return told
 
     def loops(self) -> Loops:
-        """All that was written, with points numbered from the first of all cells."""
+        """What was written for cells that list an edge, with points numbered from the first of them all."""
         told, cells = (np.concatenate(parts) for parts in (self.told, self.cells))
         some = np.flatnonzero(told["defaulted"])
         defaulted = dict(zip(cells[some].tolist(), told["defaulted"][some].tolist()))
         kept = told["listed"] > 0
-        told, cells = told[kept], cells[kept]
         numbers, nodes, ends = (buffer.written() for buffer in self.written)
+        points = numbers.reshape(-1, 2)
+        if told["points"][~kept].any():  # where the ends of each segment become one point, a cell has points and lists no edge
+            points = points[np.repeat(kept, told["points"])]
+        told, cells = told[kept], cells[kept]
         sizes = [told[name].astype(np.int64) for name in ("points", "nodes", "loops")]
         first_point, first_node = (np.cumsum(size) - size for size in sizes[:2])
         ends = ends + np.repeat(first_node, sizes[2])  # the library counts points and nodes from the cell's own first
         nodes = nodes + np.repeat(first_point, sizes[1])
         counts = np.stack([told[name].astype(np.int64) for name in COUNTS], axis=1)
-        return Loops(numbers.reshape(-1, 2), nodes, ends, np.repeat(cells, sizes[2]), cells, counts,
+        return Loops(points, nodes, ends, np.repeat(cells, sizes[2]), cells, counts,
                      np.stack([first_point, first_point + sizes[0]], axis=1), defaulted)
 
 

@@ -5,6 +5,7 @@ import pytest
 from conftest import CUBE, box
 from hypothesis import given, settings
 from hypothesis import strategies as st
+from test_calls import one_call
 
 import cicelybeam
 from cicelybeam import place
@@ -122,6 +123,15 @@ def test_counts_are_the_librarys(kind, origin, normal):
         if s.listed:
             counts[k] = [s.listed, s.in_loops, s.flat, s.open]
     assert counts == dict(zip(cut.cells.tolist(), cut.counts.tolist()))
+
+
+def test_a_cell_with_a_point_and_no_edge_before_another():
+    """The ends of its segment become one point; the other cell's polygon keeps its own points."""
+    face = np.array([[-0.11, -0.08, 0.04], [0.02, -0.08, 0.11], [-0.08, 0, -0.09]])
+    mesh = meshio.Mesh(np.concatenate([face, CUBE + [3, 3, -0.5]]), [("polyhedron3", [[np.arange(3)]]), ("hexahedron", [list(range(3, 11))])])
+    cut = cicelybeam.cut_plane(cicelybeam.of_meshio(mesh), (0, 0, 0), (0, 0, 1), 0.1)
+    assert one_call(cut.mesh, 18, np.arange(3), cut.near.origin, (0, 0, 1), 0.1)[0].points == 1 and cut.cells.tolist() == [1]
+    assert cut.polygon(0).tolist() == [[3, 3], [4, 3], [4, 4], [3, 4]] and cut.record.area == 1
 
 
 def test_plane_along_shared_faces():
