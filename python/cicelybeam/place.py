@@ -181,14 +181,18 @@ def nearest_in_plane(origin: Vector, normal: Vector, middle: Vector) -> Vector:
     """The point of the plane that is nearest to the middle.
 
     Cells are cut from here: far from the mesh an origin costs as many digits of every distance as it is far away. The point
-    is worked out in fractions from the normal as it is given, so that it is off the plane by its own rounding only.
+    is worked out in fractions from the normal as it is given, so that it is off the plane by its own rounding only. Where it
+    or the middle is too large for numbers, it is the origin.
 
     >>> nearest_in_plane((1e9, 0.0, 0.1), (0.0, 0.0, 7.0), (0.5, 0.25, 0.5))
     (0.5, 0.25, 0.1)
     """
-    o, n, m = ([Fraction(x) for x in a] for a in (origin, normal, middle))
-    along = sum((a - b) * c for a, b, c in zip(m, o, n)) / sum(c * c for c in n)
-    return tuple(float(a - along * c) for a, c in zip(m, n))
+    try:
+        o, n, m = ([Fraction(x) for x in a] for a in (origin, normal, middle))
+        along = sum((a - b) * c for a, b, c in zip(m, o, n)) / sum(c * c for c in n)
+        return tuple(float(a - along * c) for a, c in zip(m, n))
+    except OverflowError:
+        return origin
 
 
 def moved(origin: Vector, normal: Vector, distance: float) -> Vector:
@@ -198,6 +202,9 @@ def moved(origin: Vector, normal: Vector, distance: float) -> Vector:
 
 def nearest_on_line(origin: Vector, direction: Vector, middle: Vector) -> Vector:
     """The point of the line that is nearest to the middle, as for a plane."""
-    o, d, m = ([Fraction(x) for x in a] for a in (origin, direction, middle))
-    along = sum((a - b) * c for a, b, c in zip(m, o, d)) / sum(c * c for c in d)
-    return tuple(float(a + along * c) for a, c in zip(o, d))
+    try:
+        o, d, m = ([Fraction(x) for x in a] for a in (origin, direction, middle))
+        along = sum((a - b) * c for a, b, c in zip(m, o, d)) / sum(c * c for c in d)
+        return tuple(float(a + along * c) for a, c in zip(o, d))
+    except OverflowError:
+        return origin

@@ -57,6 +57,16 @@ def test_an_answer_or_an_error_of_its_own(kind, n, how, seed, tol, shift):
         assert [status for status, why in record.reasons if "not finite" in why] == [3]
 
 
+@pytest.mark.parametrize("normal", [(0, 0, 1), (1, 2, 3)])
+def test_a_middle_that_overflows(normal):
+    """The mean of two coordinates near the largest number, or the point of the plane or line that is nearest to it."""
+    for far in (1.7e308, 0.89e308):
+        mesh = box(1)
+        mesh.points += far
+        for cut in (cicelybeam.cut_plane(mesh, (0, 0, 0), normal, 1.0), cicelybeam.cut_line(mesh, (0, 0, 0), normal, 1.0)):
+            assert str(cut) and cut.record.as_dict()
+
+
 def test_area_that_overflows():
     mesh = box(1)
     mesh.points *= 1e160
