@@ -20,7 +20,7 @@ from cicelybeam import place, report
 from cicelybeam.library import Line, library
 from cicelybeam.section import Asked, Section
 from cicelybeam.shift import LOOKED_AT, Drawn
-from cicelybeam.undrawn import findings
+from cicelybeam.undrawn import face_segments, findings
 
 LEAST = 2.0**-1022
 TETRA = np.array([[0.0, 0, 0], [1, 0, 0], [0, 1, 0], [0, 0, 1]])
@@ -164,6 +164,15 @@ def test_faces_of_any_length(face, heights):
         cut.mesh, 18, cut.mesh.blocks[0].handed(np.array([0]))[0], cut.near.origin, (0, 0, 1), 0)[0].defaulted
 
 
+def test_types_side_by_side():
+    """Cells keep their numbers over blocks, with cells between them that are not cut."""
+    faces = [8 + np.array(face) for face in ([0, 1, 3], [1, 2, 3], [2, 0, 3], [0, 2, 1])]
+    cut = cicelybeam.cut_plane(meshio.Mesh(np.concatenate([CUBE + [5, 0, -0.5], LOW]), [
+        ("hexahedron", [list(range(8))]), ("triangle", [[8, 9, 10]]), ("tetra", [[8, 9, 10, 11]]), ("polyhedron4", [faces])]), (0, 0, 0), (0, 0, 1), 0)
+    assert cut.defaulted_by_cell == {2: 6, 3: 6} and [cell.type for cell in cut.record.defaulted_cells] == ["tetra", "polyhedron4"]
+    check(cut)
+
+
 def test_the_most_that_a_cell_can_have():
     """As many as it has face corners, 256 for one face of them."""
     heights = np.tile([1e-310, -1e-310], 128)
@@ -206,7 +215,8 @@ def test_plane_meshes(given_numbers, direction, tol):
     """The sum over the cells."""
     mesh = meshio.Mesh(np.array(given_numbers).reshape(6, 2), [("quad", [[0, 1, 2, 3]]), ("triangle", [[3, 4, 5], [1, 0, 4]])])
     cut = cicelybeam.cut_line(mesh, (0, 0), direction, tol)
-    near = place.nearest_on_line((0.0, 0.0), tuple(map(float, direction)), cut.mesh.centre() or (0.0, 0.0))
+    with np.errstate(all="ignore"):  # as in the cut itself
+        near = place.nearest_on_line((0.0, 0.0), tuple(map(float, direction)), cut.mesh.centre() or (0.0, 0.0))
     normal = place.normal_of_line(tuple(map(float, direction)))
     found = {k: by_default(cut.mesh.points[cell], near, normal, tol) for k, cell in enumerate(([0, 1, 2, 3], [3, 4, 5], [1, 0, 4]))}
     assert cut.defaulted_by_cell == {k: count for k, count in found.items() if count}
@@ -225,6 +235,29 @@ def test_a_line_in_space_counts_both_kinds(y, faces, z, loops):
     assert section.defaulted == faces and section.record.polygons == 1
     ring = section.in_space()[section.nodes]
     assert by_default(ring[:, [0, 2]], (0, 0), (0, 1), 0) == loops and len(line) == 1
+
+
+@settings(max_examples=200)
+@given(st.sampled_from(["tetra", "wedge", "hexahedron"]), st.lists(numbers, min_size=24, max_size=24), st.sampled_from([(1, 0, 0), (0, 0, -2), (1, 2, 3)]),
+       st.sampled_from([0.0, 1e-310, 0.5]), st.booleans())
+def test_any_cells_by_a_line(kind, given_numbers, direction, tol, all_odd):
+    """The faces' crossings, and those of the loops that their segments are stitched to."""
+    mesh = box(1, kind, (1.0, 1.0, 3e-310))
+    odd = np.array(given_numbers).reshape(8, 3)
+    mesh.points = odd if all_odd else np.where(np.isin(np.arange(8), (1, 6))[:, None], odd, mesh.points)
+    cut = cicelybeam.cut_line(mesh, (0, 0, 0), direction, tol)
+    along = tuple(map(float, direction))
+    with np.errstate(all="ignore"):  # as in the cut itself
+        frame = place.plane_of_line(place.nearest_on_line((0.0, 0.0, 0.0), along, cut.mesh.centre() or (0.0, 0.0, 0.0)), along)
+    for k in range(cut.mesh.total):
+        faces = [[tuple(corner) for corner in cut.mesh.points[face].tolist()] for face in cut.mesh.blocks[0].faces(k)]
+        ends = [[place.dot(tuple(x - o for x, o in zip(end, frame.origin)), axis) for axis in (frame.u, frame.v)]
+                for face in faces for segment in face_segments(face, frame, tol) for end in segment]
+        _, points, nodes, lasts = stitch_call(np.array(ends, dtype=float).reshape(-1), tol)
+        loops = [points.reshape(-1, 2)[loop] for loop in np.split(nodes, lasts[:-1]) if len(loop)]
+        assert cut.defaulted_by_cell.get(k, 0) == (sum(by_default(face, frame.origin, frame.normal, tol) for face in faces)
+                                                   + sum(by_default(loop, (0, 0), (0, 1), tol) for loop in loops))
+    assert cut.defaulted == cut.record.defaulted == sum(cut.defaulted_by_cell.values())
 
 
 # ---- what a reader is told
