@@ -56,7 +56,8 @@ def _nearest(cut: PlaneCut, space: np.ndarray, pairs: np.ndarray, away: np.ndarr
     da, db = away[a], away[b]
     tol = cut.record.tolerance
     with np.errstate(all="ignore"):
-        part = np.clip(np.nan_to_num(da / (da - db)), 0.0, 1.0)
+        by_default = (da != db) & (np.abs(da - db) <= np.finfo(float).tiny)  # in the middle, as the library has it
+        part = np.where(by_default, 0.5, np.clip(np.nan_to_num(da / (da - db)), 0.0, 1.0))
         meets = (np.minimum(da, db) <= tol) & (np.maximum(da, db) >= -tol)
         place_of = cut.mesh.points[a] + part[:, :, None] * (cut.mesh.points[b] - cut.mesh.points[a])
         apart = np.where(meets, np.linalg.norm(place_of - space[:, None], axis=2), np.inf)

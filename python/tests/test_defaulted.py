@@ -18,6 +18,7 @@ import cicelybeam
 import sample
 from cicelybeam import place, report
 from cicelybeam.library import Line, library
+from cicelybeam.onpoints import point_values
 from cicelybeam.section import Asked, Section
 from cicelybeam.shift import LOOKED_AT, Drawn
 from cicelybeam.undrawn import face_segments, findings
@@ -94,6 +95,13 @@ def test_a_crossing_is_guessed():
     assert sorted(cut.points.tolist()) == [[-1, -1], [-1, 0], [0, -1]] and cut.record.area == 0.5
     assert cut.defaulted_by_cell == {0: 6} and cut.traces().defaulted_by_face == {(0, 0): 2, (0, 2): 2, (0, 3): 2}
     check(cut)
+
+
+def test_a_field_of_nodes_at_a_guessed_point():
+    mesh = tetra(LOW)
+    mesh.point_data["f"] = np.array([0.0, 1.0, 1.0, 1.0])
+    cut = cicelybeam.cut_plane(mesh, (0, 0, 0), (0, 0, 1), 0)
+    assert point_values(cut)["f"].tolist() == [0.5, 0.5, 0.5]  # divided, it would be 3/4
 
 
 @pytest.mark.parametrize("upper,most,number", [(2.0**-1024, 0.0, 6), (np.nextafter(2.0**-1024, 1), 1.0, 0)])
