@@ -62,5 +62,6 @@ int main(void) {
   print_loops(s);
   printf("edges listed %u: in loops %u, flat %u, open %u\n", (unsigned)s.listed,
          (unsigned)s.in_loops, (unsigned)s.flat, (unsigned)s.open);
+  printf("crossings in the middle by default: %u\n", (unsigned)s.defaulted);
   return 0;
 }

@@ -90,7 +90,14 @@ extern "C" {
 #define CICELYBEAM_STITCH_NODES(s) (s)
 #define CICELYBEAM_STITCH_ENDS(s) ((s) / 3)
 
-/* ---- Answers */
+/* ---- Answers
+ * A face, or a loop that a line cuts, is clipped to one side of the cut, unless it lies in the cut within the
+ * tolerance. An edge of it from a to b, at distances da and db that are positive on that side, has a crossing
+ * where one of them is at least -tol and the other is not. The crossing lies at t = da / (da - db) of the way
+ * from a to b; and in the middle, t = 0.5, by default where da - db is NaN or no more than 2^-1022 (DBL_MIN) in
+ * absolute value. `defaulted` is the number of crossings that lie in the middle by default: of all that were
+ * computed, also where the point was then skipped as near the last one. The faces of a cell are added up, so an
+ * edge counts once for each of its faces. At most 256, and at most 640 for a line in space. */
 
 /* A section: closed polygons of points in the cutting plane, and an account of every edge.
  *
@@ -107,7 +114,9 @@ extern "C" {
  * listed = in_loops + flat + open, always. Listed edges that close without an area above the squared
  * tolerance are counted as flat, those that do not close as open; neither is drawn. So every listed edge
  * is drawn exactly where both are 0. A segment whose ends are one point within the tolerance is no edge,
- * one that repeats an edge adds none, and a corner at a distance of NaN counts as outside. */
+ * one that repeats an edge adds none, and a corner at a distance of NaN counts as outside.
+ *
+ * defaulted is as above, and 0 of cicelybeam_stitch, which computes no crossing. */
 struct cicelybeam_section {
   uint32_t refusal;
   uint32_t points;
@@ -117,6 +126,7 @@ struct cicelybeam_section {
   uint32_t in_loops;
   uint32_t flat;
   uint32_t open;
+  uint32_t defaulted;
 };
 
 /* Segments: the part of a line within a cell, or those that a plane cut gathers. Written to numbers: first
@@ -125,6 +135,7 @@ struct cicelybeam_section {
 struct cicelybeam_line {
   uint32_t refusal;
   uint32_t segments;
+  uint32_t defaulted;
 };
 
 struct cicelybeam_tolerance {
@@ -150,9 +161,9 @@ struct cicelybeam_section cicelybeam_plane(uint8_t type, const uint64_t *conn, s
 
 /* The segments that cicelybeam_plane stitches, before they are stitched: those of each face, faces in their
  * order, in the plane, from origin; four numbers a segment, at most 3 * m / 2 segments. cicelybeam_stitch of
- * these numbers with the same tol gives what cicelybeam_plane gives, where no call is refused. A face alone
- * can be handed over as a PHED of one face; a cell's segments are those of its faces, in their order.
- * Refuses 1 to 7. */
+ * these numbers with the same tol gives what cicelybeam_plane gives but for defaulted, which is told here, where
+ * no call is refused. A face alone can be handed over as a PHED of one face; a cell's segments are those of its
+ * faces, in their order, and its defaulted is their sum. Refuses 1 to 7. */
 struct cicelybeam_line cicelybeam_gather(uint8_t type, const uint64_t *conn, size_t conn_len,
                                          const double *coords, size_t coords_len,
                                          const double *origin, size_t origin_len,
@@ -161,7 +172,8 @@ struct cicelybeam_line cicelybeam_gather(uint8_t type, const uint64_t *conn, siz
 
 /* A space cell cut by the line through origin with this direction: the cell is cut by a plane that holds
  * the line, and the line cuts the loops of that section. Flat and open pieces of the section are dropped,
- * and nothing tells of it; to know, cut the cell by a plane that holds the line. Refuses 1 to 7. */
+ * and nothing tells of it; to know, cut the cell by a plane that holds the line. defaulted has both: the
+ * crossings of that plane cut, and those made where the line cuts its loops. Refuses 1 to 7. */
 struct cicelybeam_line cicelybeam_line_in_space(uint8_t type, const uint64_t *conn, size_t conn_len,
                                                 const double *coords, size_t coords_len,
                                                 const double *origin, size_t origin_len,

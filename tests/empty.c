@@ -4,11 +4,11 @@
 
 static int is_empty(struct cicelybeam_section s, uint32_t refusal) {
   return s.refusal == refusal && s.points == 0 && s.nodes == 0 && s.loops == 0 && s.listed == 0 &&
-         s.in_loops == 0 && s.flat == 0 && s.open == 0;
+         s.in_loops == 0 && s.flat == 0 && s.open == 0 && s.defaulted == 0;
 }
 
 static int is_none(struct cicelybeam_line l, uint32_t refusal) {
-  return l.refusal == refusal && l.segments == 0;
+  return l.refusal == refusal && l.segments == 0 && l.defaulted == 0;
 }
 
 static int is_tolerance(struct cicelybeam_tolerance t) {
