@@ -11,8 +11,8 @@ const NODES: [u64; 8] = [0, 1, 2, 3, 4, 5, 6, 7];
 fn main() -> Result<(), Refusal> {
     let (origin, normal) = ([0., 0., 0.5], [0., 0., 1.]);
     let tol = tolerance_in_space(&COORDS)?;
-    let segments = gather(SpaceType::Hex8, &NODES, &COORDS, &origin, &normal, tol)?;
-    for (number, [a, b]) in segments.iter().enumerate() {
+    let gathered = gather(SpaceType::Hex8, &NODES, &COORDS, &origin, &normal, tol)?;
+    for (number, [a, b]) in gathered.segments.iter().enumerate() {
         println!("segment {number}: {} {} to {} {}", a[0], a[1], b[0], b[1]);
     }
     let section = cut_by_plane(SpaceType::Hex8, &NODES, &COORDS, &origin, &normal, tol)?;
@@ -28,5 +28,6 @@ fn main() -> Result<(), Refusal> {
         "edges listed {}: in loops {}, flat {}, open {}",
         edges.listed, edges.in_loops, edges.flat, edges.open
     );
+    println!("crossings in the middle by default: {}", section.defaulted);
     Ok(())
 }

@@ -37,6 +37,17 @@ pub struct Written {
     pub loops: usize,
     /// The edges of the cut, counted.
     pub edges: Edges,
+    /// The crossings that lie in the middle [by default](crate#crossings-in-the-middle-by-default).
+    pub defaulted: u32,
+}
+
+/// How much of a buffer holds segments.
+#[derive(Clone, Copy, Debug, PartialEq, Eq)]
+pub struct WrittenLine {
+    /// The segments.
+    pub segments: usize,
+    /// The crossings that lie in the middle [by default](crate#crossings-in-the-middle-by-default).
+    pub defaulted: u32,
 }
 
 /// A space cell cut by a plane, into buffers. See [`crate::cut_by_plane`].
@@ -59,7 +70,7 @@ pub fn cut_by_plane(
     ))
 }
 
-/// The segments that a plane cut stitches, four numbers each; the number of segments. See [`crate::gather`].
+/// The segments that a plane cut stitches, four numbers each. See [`crate::gather`].
 pub fn gather(
     number: u8,
     conn: &[u64],
@@ -68,7 +79,7 @@ pub fn gather(
     normal: &[f64],
     tol: f64,
     numbers: &mut [f64],
-) -> Result<usize, Refusal> {
+) -> Result<WrittenLine, Refusal> {
     let of = SegmentsOf::Gather;
     segments(linked::segments(
         of, number, conn, coords, origin, normal, tol, numbers,
@@ -86,7 +97,7 @@ pub fn stitch(segments: &[f64], tol: f64, into: Buffers<'_>) -> Result<Written, 
     ))
 }
 
-/// A space cell cut by a line, six numbers a segment; the number of segments. See [`crate::cut_by_line`].
+/// A space cell cut by a line, six numbers a segment. See [`crate::cut_by_line`].
 pub fn cut_by_line(
     number: u8,
     conn: &[u64],
@@ -95,14 +106,14 @@ pub fn cut_by_line(
     direction: &[f64],
     tol: f64,
     numbers: &mut [f64],
-) -> Result<usize, Refusal> {
+) -> Result<WrittenLine, Refusal> {
     let of = SegmentsOf::LineInSpace;
     segments(linked::segments(
         of, number, conn, coords, origin, direction, tol, numbers,
     ))
 }
 
-/// A plane cell cut by a line that its normal gives, four numbers a segment; the number of segments. See
+/// A plane cell cut by a line that its normal gives, four numbers a segment. See
 /// [`crate::cut_plane_cell_by_normal`].
 pub fn cut_plane_cell_by_normal(
     number: u8,
@@ -112,14 +123,14 @@ pub fn cut_plane_cell_by_normal(
     normal: &[f64],
     tol: f64,
     numbers: &mut [f64],
-) -> Result<usize, Refusal> {
+) -> Result<WrittenLine, Refusal> {
     let of = SegmentsOf::PlaneCellByNormal;
     segments(linked::segments(
         of, number, conn, coords, origin, normal, tol, numbers,
     ))
 }
 
-/// A plane cell cut by a line that its direction gives, four numbers a segment; the number of segments. See
+/// A plane cell cut by a line that its direction gives, four numbers a segment. See
 /// [`crate::cut_plane_cell_by_direction`].
 pub fn cut_plane_cell_by_direction(
     number: u8,
@@ -129,7 +140,7 @@ pub fn cut_plane_cell_by_direction(
     direction: &[f64],
     tol: f64,
     numbers: &mut [f64],
-) -> Result<usize, Refusal> {
+) -> Result<WrittenLine, Refusal> {
     let of = SegmentsOf::PlaneCellByDirection;
     segments(linked::segments(
         of, number, conn, coords, origin, direction, tol, numbers,
@@ -148,12 +159,16 @@ fn written(found: linked::Section) -> Result<Written, Refusal> {
             flat: found.flat,
             open: found.open,
         },
+        defaulted: found.defaulted,
     })
 }
 
-fn segments(found: linked::Line) -> Result<usize, Refusal> {
-    answered(found.refusal, found.segments == 0)?;
-    Ok(found.segments as usize)
+fn segments(found: linked::Line) -> Result<WrittenLine, Refusal> {
+    answered(found.refusal, found.tells_nothing())?;
+    Ok(WrittenLine {
+        segments: found.segments as usize,
+        defaulted: found.defaulted,
+    })
 }
 
 /// With a refusal the library tells nothing else. If it did, it would not be the library of this crate.
@@ -161,6 +176,9 @@ pub(crate) fn answered(refusal: u32, nothing_else: bool) -> Result<(), Refusal> 
     let Some(refusal) = Refusal::of_number(refusal) else {
         return Ok(());
     };
-    assert!(nothing_else, "the linked library tells more beside a refusal");
+    assert!(
+        nothing_else,
+        "the linked library tells more beside a refusal"
+    );
     Err(refusal)
 }

@@ -22,6 +22,17 @@
 //! # Ok::<(), cicelybeam::Refusal>(())
 //! ```
 //!
+//! # Crossings in the middle by default
+//!
+//! A face, or a loop that a line cuts, is clipped to one side of the cut, unless it lies in the cut within the
+//! tolerance. An edge of it from a to b, at distances da and db that are positive on that side, has a crossing
+//! where one of them is at least `-tol` and the other is not. The crossing lies at t = da / (da - db) of the way
+//! from a to b; and in the middle, t = 0.5, by default where da - db is NaN or no more than 2^-1022
+//! ([`f64::MIN_POSITIVE`]) in absolute value. `defaulted` is the number of crossings that lie in the middle by
+//! default: of all that were computed, also where the point was then skipped as near the last one. The faces of a
+//! cell are added up, so an edge counts once for each of its faces. It is at most 256, and at most 640 for a line
+//! in space.
+//!
 //! What is proved of the functions, and what is not, stands in the repository's docs/CLAIMS.md. This crate is
 //! not proved; it is thin, and its only unsafe code is in `src/linked.rs`.
 #![deny(missing_docs)]
@@ -35,7 +46,7 @@ mod section;
 mod types;
 
 pub use refusal::{Mender, Refusal};
-pub use section::{Edges, Section};
+pub use section::{Edges, Line, Section};
 pub use types::{PlaneType, SpaceType, FACE_END, MOST_ENTRIES};
 
 use lent::answered;
@@ -76,18 +87,20 @@ pub fn cut_by_plane(
 /// The segments that [`cut_by_plane`] stitches, before they are stitched: those of each face, faces in their order,
 /// in the plane's own coordinates.
 ///
-/// [`stitch`] of them with the same `tol` gives what [`cut_by_plane`] gives. A face alone can be handed over as a
-/// [`SpaceType::Phed`] of one face; a cell's segments are those of its faces, in their order.
+/// [`stitch`] of them with the same `tol` gives what [`cut_by_plane`] gives but for `defaulted`, which is told here:
+/// stitching computes no crossing. A face alone can be handed over as a [`SpaceType::Phed`] of one face; a cell's
+/// segments are those of its faces, in their order, and its `defaulted` is their sum.
 ///
 /// ```
-/// use cicelybeam::{cut_by_plane, gather, stitch, SpaceType};
+/// use cicelybeam::{cut_by_plane, gather, stitch, Section, SpaceType};
 ///
 /// let coords = [0., 0., 0., 1., 0., 0., 0., 1., 0., 0., 0., 1.];
 /// let (nodes, origin, normal) = ([0, 1, 2, 3], [0., 0., 0.25], [0., 0., 1.]);
-/// let segments = gather(SpaceType::Tet4, &nodes, &coords, &origin, &normal, 0.)?;
-/// assert_eq!(segments.len(), 3);
+/// let gathered = gather(SpaceType::Tet4, &nodes, &coords, &origin, &normal, 0.)?;
+/// assert_eq!(gathered.segments.len(), 3);
 /// let section = cut_by_plane(SpaceType::Tet4, &nodes, &coords, &origin, &normal, 0.)?;
-/// assert_eq!(stitch(&segments, 0.)?, section);
+/// let stitched = stitch(&gathered.segments, 0.)?;
+/// assert_eq!(Section { defaulted: gathered.defaulted, ..stitched }, section);
 /// # Ok::<(), cicelybeam::Refusal>(())
 /// ```
 pub fn gather(
@@ -97,9 +110,9 @@ pub fn gather(
     origin: &[f64],
     normal: &[f64],
     tol: f64,
-) -> Result<Vec<[[f64; 2]; 2]>, Refusal> {
+) -> Result<Line<2>, Refusal> {
     let room = 6 * cell.face_corners(conn.len());
-    segments(room, |numbers| {
+    section::filled_line(room, |numbers| {
         lent::gather(cell.number(), conn, coords, origin, normal, tol, numbers)
     })
 }
@@ -108,7 +121,7 @@ pub fn gather(
 ///
 /// The cell is cut by a plane that holds the line, and the line cuts the loops of that section. Flat and open
 /// pieces of the section are dropped, and nothing tells of it: to know, [`cut_by_plane`] by a plane that holds the
-/// line.
+/// line. `defaulted` has both: the crossings of that plane cut, and those made where the line cuts its loops.
 ///
 /// ```
 /// use cicelybeam::{cut_by_line, SpaceType};
@@ -116,9 +129,9 @@ pub fn gather(
 /// let coords = [0., 0., 0., 1., 0., 0., 0., 1., 0., 0., 0., 1.];
 /// let nodes = [0, 1, 2, 3];
 /// let found = cut_by_line(SpaceType::Tet4, &nodes, &coords, &[0.25, 0.25, 0.], &[0., 0., 2.], 1e-12)?;
-/// assert_eq!(found.len(), 1);
-/// let heights = [found[0][0][2], found[0][1][2]];
-/// assert_eq!((heights[0] - heights[1]).abs(), 0.5);
+/// let [a, b] = found.segments[0];
+/// assert_eq!((a[2] - b[2]).abs(), 0.5);
+/// assert_eq!((found.segments.len(), found.defaulted), (1, 0));
 /// # Ok::<(), cicelybeam::Refusal>(())
 /// ```
 pub fn cut_by_line(
@@ -128,9 +141,9 @@ pub fn cut_by_line(
     origin: &[f64],
     direction: &[f64],
     tol: f64,
-) -> Result<Vec<[[f64; 3]; 2]>, Refusal> {
+) -> Result<Line<3>, Refusal> {
     let room = 14 * cell.face_corners(conn.len());
-    segments(room, |numbers| {
+    section::filled_line(room, |numbers| {
         lent::cut_by_line(cell.number(), conn, coords, origin, direction, tol, numbers)
     })
 }
@@ -142,7 +155,7 @@ pub fn cut_by_line(
 ///
 /// let square = [0., 0., 1., 0., 1., 1., 0., 1.];
 /// let found = cut_plane_cell_by_normal(PlaneType::Quad4, &[0, 1, 2, 3], &square, &[0., 0.5], &[0., 1.], 0.)?;
-/// assert_eq!(found, [[[0., 0.5], [1., 0.5]]]);
+/// assert_eq!(found.segments, [[[0., 0.5], [1., 0.5]]]);
 /// # Ok::<(), cicelybeam::Refusal>(())
 /// ```
 pub fn cut_plane_cell_by_normal(
@@ -152,9 +165,9 @@ pub fn cut_plane_cell_by_normal(
     origin: &[f64],
     normal: &[f64],
     tol: f64,
-) -> Result<Vec<[[f64; 2]; 2]>, Refusal> {
+) -> Result<Line<2>, Refusal> {
     let room = 6 * cell.corners(conn.len());
-    segments(room, |numbers| {
+    section::filled_line(room, |numbers| {
         lent::cut_plane_cell_by_normal(cell.number(), conn, coords, origin, normal, tol, numbers)
     })
 }
@@ -167,7 +180,7 @@ pub fn cut_plane_cell_by_normal(
 /// let triangle = [0., 0., 1., 0., 0., 1.];
 /// let along = [1., 0.];
 /// let found = cut_plane_cell_by_direction(PlaneType::Tri3, &[0, 1, 2], &triangle, &[0., 0.5], &along, 0.)?;
-/// assert_eq!(found, [[[0., 0.5], [0.5, 0.5]]]);
+/// assert_eq!(found.segments, [[[0., 0.5], [0.5, 0.5]]]);
 /// # Ok::<(), cicelybeam::Refusal>(())
 /// ```
 pub fn cut_plane_cell_by_direction(
@@ -177,9 +190,9 @@ pub fn cut_plane_cell_by_direction(
     origin: &[f64],
     direction: &[f64],
     tol: f64,
-) -> Result<Vec<[[f64; 2]; 2]>, Refusal> {
+) -> Result<Line<2>, Refusal> {
     let room = 6 * cell.corners(conn.len());
-    segments(room, |numbers| {
+    section::filled_line(room, |numbers| {
         lent::cut_plane_cell_by_direction(
             cell.number(),
             conn,
@@ -192,7 +205,8 @@ pub fn cut_plane_cell_by_direction(
     })
 }
 
-/// The closed polygons that segments in the plane form; at most [`MOST_SEGMENTS`].
+/// The closed polygons that segments in the plane form; at most [`MOST_SEGMENTS`]. No crossing is computed, so
+/// `defaulted` is 0.
 ///
 /// ```
 /// let open = [[[0., 0.], [0., 1.]], [[0., 1.], [1., 0.]]];
@@ -234,15 +248,4 @@ pub fn tolerance_in_plane(coords: &[f64]) -> Result<f64, Refusal> {
 /// ```
 pub fn sqrt(x: f64) -> f64 {
     linked::sqrt(x)
-}
-
-/// The segments that `cut` writes, into a buffer of this many numbers at least.
-fn segments<const D: usize>(
-    room: usize,
-    cut: impl FnOnce(&mut [f64]) -> Result<usize, Refusal>,
-) -> Result<Vec<[[f64; D]; 2]>, Refusal> {
-    let mut found = vec![[[0.0; D]; 2]; room.div_ceil(2 * D)];
-    let written = cut(found.as_flattened_mut().as_flattened_mut())?;
-    found.truncate(written);
-    Ok(found)
 }

@@ -18,12 +18,22 @@ pub struct Section {
     pub in_loops: u32,
     pub flat: u32,
     pub open: u32,
+    pub defaulted: u32,
 }
 
 impl Section {
     pub fn tells_nothing(&self) -> bool {
-        let told = [self.points, self.nodes, self.loops, self.listed, self.in_loops, self.flat, self.open];
-        told == [0; 7]
+        let told = [
+            self.points,
+            self.nodes,
+            self.loops,
+            self.listed,
+            self.in_loops,
+            self.flat,
+            self.open,
+            self.defaulted,
+        ];
+        told == [0; 8]
     }
 }
 
@@ -31,6 +41,13 @@ impl Section {
 pub struct Line {
     pub refusal: u32,
     pub segments: u32,
+    pub defaulted: u32,
+}
+
+impl Line {
+    pub fn tells_nothing(&self) -> bool {
+        [self.segments, self.defaulted] == [0; 2]
+    }
 }
 
 #[repr(C)]

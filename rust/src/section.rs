@@ -1,6 +1,6 @@
 //! Sections and their edges.
 
-use crate::lent::{Buffers, Written};
+use crate::lent::{Buffers, Written, WrittenLine};
 use crate::Refusal;
 
 /// A section: polygons of points in the cutting plane.
@@ -14,6 +14,17 @@ pub struct Section {
     pub ends: Vec<u32>,
     /// The edges of the cut, counted.
     pub edges: Edges,
+    /// The crossings that lie in the middle [by default](crate#crossings-in-the-middle-by-default).
+    pub defaulted: u32,
+}
+
+/// Segments: the part of a line within a cell, or those that a plane cut gathers.
+#[derive(Clone, Debug, PartialEq)]
+pub struct Line<const D: usize> {
+    /// The two ends of each.
+    pub segments: Vec<[[f64; D]; 2]>,
+    /// The crossings that lie in the middle [by default](crate#crossings-in-the-middle-by-default).
+    pub defaulted: u32,
 }
 
 /// The listed edges of a cut, counted: `listed` is always the sum of the other three.
@@ -68,6 +79,7 @@ pub(crate) fn filled(
         nodes: vec![0; nodes],
         ends: vec![0; ends],
         edges: Edges::default(),
+        defaulted: 0,
     };
     let written = cut(Buffers {
         numbers: section.points.as_flattened_mut(),
@@ -78,5 +90,20 @@ pub(crate) fn filled(
     section.nodes.truncate(written.nodes);
     section.ends.truncate(written.loops);
     section.edges = written.edges;
+    section.defaulted = written.defaulted;
     Ok(section)
+}
+
+/// The segments that `cut` writes into a buffer of this many numbers at least.
+pub(crate) fn filled_line<const D: usize>(
+    room: usize,
+    cut: impl FnOnce(&mut [f64]) -> Result<WrittenLine, Refusal>,
+) -> Result<Line<D>, Refusal> {
+    let mut segments = vec![[[0.0; D]; 2]; room.div_ceil(2 * D)];
+    let written = cut(segments.as_flattened_mut().as_flattened_mut())?;
+    segments.truncate(written.segments);
+    Ok(Line {
+        segments,
+        defaulted: written.defaulted,
+    })
 }

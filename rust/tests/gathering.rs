@@ -54,7 +54,11 @@ fn the_brick_at_half_its_height() {
         [[1., 0.], [1., 1.]],
         [[0., 1.], [0., 0.]],
     ];
-    assert_eq!(gathered, Ok(sides.to_vec()));
+    let expected = Line {
+        segments: sides.to_vec(),
+        defaulted: 0,
+    };
+    assert_eq!(gathered, Ok(expected));
 }
 
 /// At the brick's base the faces at the sides give the same segments, and the base gives none.
@@ -65,7 +69,7 @@ fn a_plane_that_misses_or_holds_a_face() {
         gather(SpaceType::Hex8, &nodes, &BRICK, &[0., 0., z], &UP, 0.).unwrap()
     };
     assert_eq!(at(0.), at(0.5));
-    assert!(at(2.).is_empty());
+    assert!(at(2.).segments.is_empty());
 }
 
 /// Points as their bits, nodes, ends and edges.
@@ -75,23 +79,27 @@ fn bits(section: &Section) -> (Vec<u64>, &[u32], &[u32], Edges) {
     (points, &section.nodes, &section.ends, section.edges)
 }
 
+/// But for the crossings in the middle by default, which gathering tells and stitching has none of.
 #[test]
 fn gathered_and_stitched_is_the_plane_cut() {
     for kind in SpaceType::ALL {
         let nodes = cell(kind).0;
-        let mut loops = 0;
+        let (mut loops, mut defaulted) = (0, 0);
         for normal in [UP, [1., 1., 1.], [-3., 1., 0.5], [1e200, 0., 0.]] {
             for origin in [HALF, [0.; 3], [0.25, 0.25, 0.25], [f64::NAN; 3]] {
                 for tol in [0., 1e-12, 0.25, -1., f64::NAN, f64::INFINITY] {
                     let cut = cut_by_plane(kind, &nodes, &BRICK, &origin, &normal, tol).unwrap();
                     let found = gather(kind, &nodes, &BRICK, &origin, &normal, tol).unwrap();
-                    let stitched = stitch(&found, tol).unwrap();
+                    let stitched = stitch(&found.segments, tol).unwrap();
                     assert_eq!(bits(&stitched), bits(&cut));
+                    assert_eq!((found.defaulted, stitched.defaulted), (cut.defaulted, 0));
                     loops += cut.ends.len();
+                    defaulted += cut.defaulted;
                 }
             }
         }
         assert!(loops > 9, "{kind:?} {loops}");
+        assert!(defaulted > 0, "{kind:?}");
     }
 }
 
@@ -99,10 +107,10 @@ fn gathered_and_stitched_is_the_plane_cut() {
 fn a_cell_has_the_segments_of_its_faces_in_their_order() {
     let gathered =
         |kind, nodes: &[u64]| gather(kind, nodes, &BRICK, &[0.5; 3], &[1., 2., 3.], 1e-12).unwrap();
-    let alone = FACES.map(|face| gathered(SpaceType::Phed, &face));
+    let alone = FACES.map(|face| gathered(SpaceType::Phed, &face).segments);
     let nodes = cell(SpaceType::Hex8).0;
     assert!(alone.iter().filter(|found| !found.is_empty()).count() > 3);
-    assert_eq!(gathered(SpaceType::Hex8, &nodes), alone.concat());
+    assert_eq!(gathered(SpaceType::Hex8, &nodes).segments, alone.concat());
 }
 
 /// A call on the tetrahedron, into a buffer that must stay as it was on a refusal.
@@ -179,9 +187,9 @@ fn what_is_not_written_keeps_its_bits() {
         let owned = gather(kind, &nodes, &BRICK, &HALF, &UP, 0.).unwrap();
         for room in [6 * kept, 6 * kept + 1, 6 * kept + 50] {
             let (found, numbers) = into(room);
-            assert_eq!(found, Ok(owned.len()));
-            let (written, rest) = numbers.split_at(4 * owned.len());
-            assert_eq!(written, owned.as_flattened().as_flattened());
+            assert_eq!(found.unwrap().segments, owned.segments.len());
+            let (written, rest) = numbers.split_at(4 * owned.segments.len());
+            assert_eq!(written, owned.segments.as_flattened().as_flattened());
             assert!(rest.iter().all(untouched));
         }
         for room in [0, 6 * kept - 1] {

@@ -23,12 +23,23 @@ fn a_reversed_loop_can_have_a_negative_area() {
 /// A loop of area 6 that meets itself: of its two parts, the triangle (0,0) (2,1) (2,-1) runs clockwise.
 #[test]
 fn a_part_of_a_loop_can_run_clockwise() {
-    let chain = [[-4., 2.], [0., 0.], [2., -1.], [2., 1.], [0., 0.], [-4., -2.], [-4., 2.]];
+    let chain = [
+        [-4., 2.],
+        [0., 0.],
+        [2., -1.],
+        [2., 1.],
+        [0., 0.],
+        [-4., -2.],
+        [-4., 2.],
+    ];
     let sides: Vec<_> = chain.windows(2).map(|pair| [pair[0], pair[1]]).collect();
     let section = stitch(&sides, 0.).unwrap();
     assert_eq!(section.loops().collect::<Vec<_>>(), [[4, 1, 3, 2, 1, 0]]);
     let polygon = section.polygons().next().unwrap();
-    assert_eq!((rounded_area(&polygon), rounded_area(&polygon[1..4])), (6., -2.));
+    assert_eq!(
+        (rounded_area(&polygon), rounded_area(&polygon[1..4])),
+        (6., -2.)
+    );
 }
 
 /// The unit cube without its side x = 1, as a polyhedron: the section is open, and the line tells nothing of it.
@@ -44,7 +55,7 @@ fn a_line_through_an_open_section_has_no_segment() {
     ];
     let (middle, along) = ([0.5, 0.5, 0.5], [1., 0., 0.]);
     let found = cut_by_line(SpaceType::Phed, &five, &cube, &middle, &along, 1e-12).unwrap();
-    assert!(found.is_empty());
+    assert!(found.segments.is_empty());
     let section =
         cut_by_plane(SpaceType::Phed, &five, &cube, &middle, &[0., 0., 1.], 1e-12).unwrap();
     assert_eq!((section.edges.listed, section.edges.open), (3, 3));

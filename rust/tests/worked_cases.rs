@@ -126,7 +126,7 @@ fn case_13_odd_normals() {
     let (nodes, origin) = ([0, 1, 2, 3], [0.5; 2]);
     let quad = PlaneType::Quad4;
     let by_normal = cut_plane_cell_by_normal(quad, &nodes, &SQUARE, &origin, &infinite, 0.);
-    assert_eq!(by_normal, Ok(Vec::new()));
+    assert!(by_normal.unwrap().segments.is_empty());
     let by_direction = cut_plane_cell_by_direction(quad, &nodes, &SQUARE, &origin, &infinite, 0.);
     assert_eq!(by_direction, Err(Refusal::NoDirection));
 }
