@@ -1,9 +1,10 @@
 //! Copies slice.rs and snap.rs out of mefikit's source into the build folder. No line of
 //! them stands in this repository.
 //!
-//! slice.rs is built three times: as it stands; with the junction comparing cosines; and with
-//! that and sums that start at plus zero. One line is appended to each copy, so that
-//! src/reach.rs becomes a child of the module and can call its private functions.
+//! slice.rs is built four times: as it stands; counting the crossings that lie in the middle by
+//! default; with that and the junction comparing cosines; and with both and sums that start at
+//! plus zero. One line is appended to each copy, so that src/reach.rs becomes a child of the
+//! module and can call its private functions.
 //!
 //! The source must be the one that pinned.sha256 has the checksums of: the two files, and those
 //! of mefikit's mesh that the stand-ins were written after.
@@ -15,6 +16,10 @@ use std::{env, fs};
 const DEFAULT_SOURCE: &str = "../../shared/docs/src";
 const REACH: &str =
     r#"pub mod reach { include!(concat!(env!("CARGO_MANIFEST_DIR"), "/src/reach.rs")); }"#;
+
+/// Where the distances differ by too little to divide by, or by NaN. The value stays.
+const BY_DEFAULT: &str = "    } else {\n        0.5\n    };";
+const COUNTED: &str = "    } else {\n        crate::count_defaulted();\n        0.5\n    };";
 
 const ARCCOSINE: &str = "cos.clamp(-1.0, 1.0).acos().abs()";
 // The Rust takes a later edge on `candidate < best`. Negating is exact, so this reads 'the
@@ -41,7 +46,8 @@ fn main() {
     let snap = read(&tools.join("snap.rs"));
     pinned(&source, &Path::new(&home).join("pinned.sha256"));
 
-    let by_cosine = replaced(&slice, ARCCOSINE, NEGATED, 1);
+    let counted = replaced(&slice, BY_DEFAULT, COUNTED, 1);
+    let by_cosine = replaced(&counted, ARCCOSINE, NEGATED, 1);
     let mut by_rules = by_cosine.clone();
     for sum in SUMS {
         by_rules = replaced(&by_rules, sum, FROM_PLUS_ZERO, 3);
@@ -55,6 +61,7 @@ fn main() {
     );
     for (name, text) in [
         ("rust", &slice),
+        ("counted", &counted),
         ("by_cosine", &by_cosine),
         ("by_rules", &by_rules),
     ] {

@@ -15,7 +15,7 @@ use ndarray::{Array2, ArrayView2};
 pub mod counts;
 pub mod mesh;
 
-// `tools::snap`, and slice.rs three times: `rust`, `by_cosine`, `by_rules`.
+// `tools::snap`, and slice.rs four times: `rust`, `counted`, `by_cosine`, `by_rules`.
 include!(concat!(env!("OUT_DIR"), "/modules.rs"));
 
 use mesh::{Dimension, Element, ElementLike, ElementType, UMesh};
@@ -25,20 +25,23 @@ pub type Segment<const D: usize> = [[f64; D]; 2];
 /// Which copy of slice.rs answers.
 #[derive(Clone, Copy, Debug, PartialEq, Eq)]
 pub enum Build {
-    /// The source unchanged.
+    /// The source unchanged. It counts nothing.
     Rust,
-    /// The junction compares cosines, as docs/RULES.md says; nothing else is changed.
+    /// Nothing is changed but that crossings in the middle by default are counted: see [`defaulted`].
+    Counted,
+    /// As `Counted`, and the junction compares cosines, as docs/RULES.md says.
     ByCosine,
     /// As `ByCosine`, and sums start at plus zero: docs/RULES.md to the bit, NaNs being alike.
     ByRules,
 }
 
-pub const BUILDS: [Build; 3] = [Build::Rust, Build::ByCosine, Build::ByRules];
+pub const BUILDS: [Build; 4] = [Build::Rust, Build::Counted, Build::ByCosine, Build::ByRules];
 
 macro_rules! ask {
     ($build:expr, $name:ident($($argument:expr),*)) => {
         match $build {
             Build::Rust => rust::reach::$name($($argument),*),
+            Build::Counted => counted::reach::$name($($argument),*),
             Build::ByCosine => by_cosine::reach::$name($($argument),*),
             Build::ByRules => by_rules::reach::$name($($argument),*),
         }
@@ -206,6 +209,7 @@ pub fn tolerance(columns: usize, coords: &[f64]) -> Result<f64, Stop> {
 pub fn slice(build: Build, mesh: &Mesh, origin: &[f64], normal: &[f64]) -> Option<Mesh> {
     whole(mesh, |mesh| match build {
         Build::Rust => rust::slice(&mesh.view(), origin, normal),
+        Build::Counted => counted::slice(&mesh.view(), origin, normal),
         Build::ByCosine => by_cosine::slice(&mesh.view(), origin, normal),
         Build::ByRules => by_rules::slice(&mesh.view(), origin, normal),
     })
@@ -215,9 +219,27 @@ pub fn slice(build: Build, mesh: &Mesh, origin: &[f64], normal: &[f64]) -> Optio
 pub fn slice_line(build: Build, mesh: &Mesh, origin: &[f64], direction: &[f64]) -> Option<Mesh> {
     whole(mesh, |mesh| match build {
         Build::Rust => rust::slice_line(&mesh.view(), origin, direction),
+        Build::Counted => counted::slice_line(&mesh.view(), origin, direction),
         Build::ByCosine => by_cosine::slice_line(&mesh.view(), origin, direction),
         Build::ByRules => by_rules::slice_line(&mesh.view(), origin, direction),
     })
+}
+
+thread_local! {
+    static DEFAULTED: Flag<usize> = const { Flag::new(0) };
+}
+
+/// Called by each build but `Build::Rust` where a crossing lies at t = 0.5 by default.
+fn count_defaulted() {
+    DEFAULTED.set(DEFAULTED.get() + 1);
+}
+
+/// What `work` gives, and the number of crossings at t = 0.5 by default that it computes, by any build but
+/// `Build::Rust`. It may call the functions above or those of `reach`.
+pub fn defaulted<R>(work: impl FnOnce() -> R) -> (R, usize) {
+    let before = DEFAULTED.get();
+    let found = work();
+    (found, DEFAULTED.get() - before)
 }
 
 fn section((points, loops): (Vec<[f64; 2]>, Vec<Vec<usize>>)) -> Section {

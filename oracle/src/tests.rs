@@ -50,6 +50,52 @@ fn the_source_is_unchanged() {
 }
 
 #[test]
+fn the_counted_source_has_one_line_more() {
+    let source = include_str!(concat!(env!("OUT_DIR"), "/rust.rs"));
+    let counted = include_str!(concat!(env!("OUT_DIR"), "/counted.rs"));
+    let call = "crate::count_defaulted();\n";
+    assert_eq!(counted.matches(call).count(), 1);
+    let place = counted.find(call).unwrap();
+    let rest = counted[place + call.len()..].trim_start();
+    assert!(rest.starts_with("0.5\n"));
+    assert_eq!(counted[..place].to_owned() + rest, source);
+}
+
+/// The count of each build, of a triangle with two corners this high and one as low that the axis y = 0 cuts.
+#[test]
+fn crossings_in_the_middle_by_default_are_counted() {
+    let least = f64::from_bits(1);
+    let edge = f64::MIN_POSITIVE;
+    let count = |build, high: f64, low: [f64; 2]| {
+        let ring = [[0.0, high], [4.0, high], low];
+        let (origin, normal) = ([0.0; 2], [0.0, 1.0]);
+        let cut = || ask!(build, plane_section_segments(&ring, &origin, &normal, 0.0));
+        defaulted(cut).1
+    };
+    for build in [Build::Counted, Build::ByCosine, Build::ByRules] {
+        assert_eq!(count(build, least, [0.0, -least]), 2);
+        assert_eq!(count(build, edge / 2.0, [0.0, -edge / 2.0]), 2);
+        assert_eq!(count(build, edge / 2.0 + least, [0.0, -edge / 2.0]), 0);
+        assert_eq!(count(build, 1.0, [0.0, f64::NAN]), 2);
+        assert_eq!(count(build, f64::INFINITY, [0.0, f64::NEG_INFINITY]), 0);
+        assert_eq!(count(build, 1.0, [0.0, -1.0]), 0);
+        assert_eq!(count(build, least, [0.0, least]), 0);
+    }
+    assert_eq!(count(Build::Rust, least, [0.0, -least]), 0);
+}
+
+/// The plane crosses each of the four edges along z in two faces.
+#[test]
+fn the_faces_of_a_cell_add_up() {
+    let coords = brick(0.0).iter().map(|x| x * 1e-310).collect::<Vec<_>>();
+    let origin = [0.0, 0.0, 5e-311];
+    let cut = || plane_cut(Build::Counted, hex(&coords), &origin, &UP, 0.0).unwrap();
+    let (found, count) = defaulted(cut);
+    assert_eq!((found.points.len(), count), (0, 8));
+    assert_eq!(defaulted(|| stitch(Build::Counted, &[], 0.0)).1, 0);
+}
+
+#[test]
 fn case_1_faces_are_positions() {
     let found = faces(18, &[0, 1, 2, MAX, 3, 4, MAX, 5, 6, 7]).unwrap();
     assert_eq!(found, [[0, 1, 2], [7, 8, 9]]);
@@ -336,6 +382,51 @@ fn the_line_cut_is_what_a_mesh_of_one_cell_gives() {
     assert_eq!(whole.coords, cut.concat().concat());
     let xs = [cut[0][0][0], cut[0][1][0]];
     assert_eq!((xs[0].min(xs[1]), xs[0].max(xs[1])), (0.0, 1.0));
+}
+
+/// `line_cut` computes the crossings that the whole function does: six where the plane that holds the line cuts the
+/// sides of the wedge, two where the line cuts the triangle between.
+#[test]
+fn the_line_cut_counts_what_a_mesh_of_one_cell_does() {
+    let s = f64::from_bits(1);
+    let end = |x: f64, y: f64| [[x, y, s], [x + 4.0, y, s], [x + 2.0, y, -s]];
+    let coords = [end(0.0, -s), end(2.0, s)].concat().concat();
+    let nodes = [0, 1, 2, 3, 4, 5];
+    let cell = Cell {
+        number: 16,
+        nodes: &nodes,
+        coords: &coords,
+    };
+    let along = [1.0, 0.0, 0.0];
+    let (one, count) =
+        defaulted(|| line_cut(Build::Counted, cell, &[0.0; 3], &along, 0.0).unwrap());
+    assert_eq!((one.len(), count), (1, 8));
+    // the whole function takes the mesh's own tolerance, which is larger; NaN still gives some
+    let coords = [
+        [0.0, -1.0, f64::NAN],
+        [4.0, -1.0, 0.5],
+        [2.0, -1.0, -0.5],
+        [0.0, 1.0, 1.0],
+        [4.0, 1.0, 0.5],
+        [2.0, 1.0, -0.5],
+    ]
+    .concat();
+    let cell = Cell {
+        number: 16,
+        nodes: &nodes,
+        coords: &coords,
+    };
+    let tol = tolerance(3, &coords).unwrap();
+    let one = || line_cut(Build::Counted, cell, &[0.0; 3], &along, tol);
+    let mesh = Mesh {
+        columns: 3,
+        coords: coords.clone(),
+        cells: vec![(16, nodes.to_vec())],
+    };
+    let whole = || slice_line(Build::Counted, &mesh, &[0.0; 3], &along);
+    let count = defaulted(one).1;
+    assert!(count > 0);
+    assert_eq!(count, defaulted(whole).1);
 }
 
 #[test]

@@ -16,7 +16,7 @@ fn main() {
     println!("What slice.rs gives for the worked cases of docs/RULES.md.");
     println!("'listed' is derived here from the segments, 'in loops' from the loops returned.");
     println!("The Rust's answer does not tell flat edges from open ones: listed less in loops");
-    println!("is both together. Stitched answers are the same in all three builds, unless said.");
+    println!("is both together. Stitched answers are the same in all four builds, unless said.");
     faces_of_phed();
     brick();
     tetrahedron();
@@ -215,7 +215,7 @@ fn gathered() {
     ];
     let gather =
         |cell| BUILDS.map(|build| plane_segments(build, cell, &[0.0, 0.0, 0.5], &UP, 0.0).unwrap());
-    let mut agrees = gather(hex()) == [(); 3].map(|()| sides.concat());
+    let mut agrees = gather(hex()) == [(); 4].map(|()| sides.concat());
     for (face, side) in faces(14, hex().nodes).unwrap().iter().zip(&sides) {
         let alone = gather(Cell {
             number: 18,
