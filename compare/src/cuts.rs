@@ -3,6 +3,7 @@
 use crate::answers::{kept_corners, room, PGON, PHED};
 use crate::cells::{kind, plane_cell, space_cell, Cell};
 use crate::entries::{Case, Entry};
+use crate::faces::nearly_no_tolerance;
 use crate::lists;
 use crate::numbers::*;
 use crate::random::Random;
@@ -106,7 +107,41 @@ fn placed<const D: usize>(random: &mut Random, entry: Entry, cell: Cell) -> Case
         case.vector[D - 1] = 1.0;
     }
     case.tol = tolerance_for::<D>(random, &case.coords);
+    if random.one_in(8) {
+        nearly_on_the_cut::<D>(random, &mut case);
+    }
     case
+}
+
+/// Changes a case so that distances from the cut differ by nearly nothing: the vector lies along an axis, and along some
+/// axes, that of a normal or others than that of a direction, coordinates are nearly nothing. A NaN or an infinity is
+/// among them now and then.
+fn nearly_on_the_cut<const D: usize>(random: &mut Random, case: &mut Case) {
+    let axis = random.within(0, D - 1);
+    let by_direction = matches!(case.entry, Entry::LineInSpace | Entry::PlaneCellByDirection);
+    let near: [bool; D] = std::array::from_fn(|k| {
+        let told_by_the_vector = (k == axis) != by_direction;
+        told_by_the_vector && (D == 2 || k == axis || random.one_in(2)) || random.one_in(16)
+    });
+    let wild = random.one_in(4);
+    for row in case.coords.chunks_exact_mut(D) {
+        for k in (0..D).filter(|&k| near[k]) {
+            row[k] = match random.below(8) {
+                0 if wild => wild_number(random),
+                _ => nearly_nothing(random),
+            };
+        }
+    }
+    for k in (0..D).filter(|&k| near[k]) {
+        case.origin[k] = match random.below(4) {
+            0 => nearly_nothing(random),
+            _ => 0.0,
+        };
+    }
+    let length = random.pick(&[1.0, -1.0, 4.0, 1e-3]);
+    case.vector = vec![0.0; D];
+    case.vector[axis] = length;
+    case.tol = nearly_no_tolerance(random);
 }
 
 /// A length for vectors; with the last two a square overflows or underflows.

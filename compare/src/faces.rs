@@ -39,11 +39,12 @@ impl<const D: usize> Face<D> {
 pub type Group<const D: usize> = (&'static str, u64, fn(&mut Random) -> Face<D>);
 
 /// The groups.
-pub fn groups<const D: usize>() -> [Group<D>; 10] {
+pub fn groups<const D: usize>() -> [Group<D>; 11] {
     [
-        ("random polygons", 20, random_polygon),
-        ("corners at the tolerance's edge", 20, at_the_edge),
-        ("corners on a lattice", 20, on_a_lattice),
+        ("random polygons", 16, random_polygon),
+        ("corners at the tolerance's edge", 18, at_the_edge),
+        ("corners on a lattice", 16, on_a_lattice),
+        ("corners nearly on the cut", 10, nearly_on_the_cut),
         ("subnormal", 8, |random| {
             drawn(random, maybe_tiny, tiny_tolerance)
         }),
@@ -161,6 +162,48 @@ fn on_a_lattice<const D: usize>(random: &mut Random) -> Face<D> {
         origin,
         normal,
         tol,
+    }
+}
+
+/// Along one axis nearly nothing, a NaN or an infinity now and then, so that distances differ by nearly nothing where the
+/// normal lies along it; along the others anything or nearly nothing too.
+fn nearly_on_the_cut<const D: usize>(random: &mut Random) -> Face<D> {
+    let axis = random.within(0, D - 1);
+    let others = random.pick(&[whole as Draw, ordinary, nearly_nothing]);
+    let wild = random.one_in(4);
+    let polygon = (0..corners(random)).map(|_| {
+        let mut corner: [f64; D] = point(random, others);
+        corner[axis] = match random.below(8) {
+            0 if wild => wild_number(random),
+            _ => nearly_nothing(random),
+        };
+        corner
+    });
+    let polygon = polygon.collect();
+    let mut origin = [0.0; D];
+    if random.one_in(4) {
+        origin[axis] = nearly_nothing(random);
+    }
+    let length = random.pick(&[1.0, 1.0, -1.0, 0.5, 2.0, 1e300]);
+    let normal = match random.below(8) {
+        0 => unit::<D>(random).map(|x| x * length),
+        _ => std::array::from_fn(|k| if k == axis { length } else { 0.0 }),
+    };
+    let tol = nearly_no_tolerance(random);
+    Face {
+        polygon,
+        origin,
+        normal,
+        tol,
+    }
+}
+
+/// None mostly, nearly none of either sign, or any.
+pub fn nearly_no_tolerance(random: &mut Random) -> f64 {
+    match random.below(8) {
+        0 => any_tolerance(random),
+        1 | 2 => nearly_nothing(random),
+        _ => 0.0,
     }
 }
 

@@ -55,6 +55,29 @@ pub fn maybe_tiny(random: &mut Random) -> f64 {
     }
 }
 
+/// Near 2^-1022, or less: halves, neighbours and sums of a few such numbers are among them.
+pub fn nearly_nothing(random: &mut Random) -> f64 {
+    let least_normal = f64::MIN_POSITIVE;
+    let x = random.pick(&[
+        0.0,
+        5e-324,
+        5e-324,
+        1e-310,
+        least_normal / 2.0,
+        least_normal / 2.0,
+        (least_normal / 2.0).next_up(),
+        least_normal.next_down(),
+        least_normal,
+        least_normal,
+        least_normal.next_up(),
+        least_normal * 2.0,
+    ]);
+    match random.below(8) {
+        0 => tiny(random),
+        _ => signed(random, x),
+    }
+}
+
 /// Whose square overflows, or nearly.
 pub fn huge(random: &mut Random) -> f64 {
     let exponent = random.pick(&[1030, 1500, 1533, 1534, 1535, 1536, 1540, 2040, 2045, 2046]);
@@ -82,6 +105,14 @@ pub fn maybe_nan(random: &mut Random) -> f64 {
         f64::NAN
     } else {
         whole(random)
+    }
+}
+
+/// An infinity, or a NaN now and then.
+pub fn wild_number(random: &mut Random) -> f64 {
+    match random.below(4) {
+        0 => f64::NAN,
+        _ => signed(random, f64::INFINITY),
     }
 }
 
