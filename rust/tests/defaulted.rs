@@ -108,6 +108,24 @@ fn a_line_in_space_adds_those_of_its_loops() {
     assert_eq!((line.segments.len(), line.defaulted), (1, 8));
 }
 
+/// The most nodes that a cell may have, above and below in turn: each edge has one crossing, and 256 is the most.
+#[test]
+fn the_most_of_one_face() {
+    let nodes: Vec<u64> = (0..256).collect();
+    let height = |k: usize| if k % 2 == 0 { LEAST } else { -LEAST };
+    let rows: Vec<[f64; 2]> = (0..256).map(|k| [k as f64, height(k)]).collect();
+    let flat = rows.as_flattened();
+    let by_normal =
+        cut_plane_cell_by_normal(PlaneType::Pgon, &nodes, flat, &[0., 0.], &[0., 1.], 0.);
+    assert_eq!(by_normal.unwrap().defaulted, 256);
+    let coords: Vec<f64> = rows.iter().flat_map(|[x, z]| [*x, x * x, *z]).collect();
+    let up = [0., 0., 1.];
+    let gathered = gather(SpaceType::Phed, &nodes, &coords, &[0.; 3], &up, 0.).unwrap();
+    assert_eq!((gathered.segments.len(), gathered.defaulted), (128, 256));
+    let section = cut_by_plane(SpaceType::Phed, &nodes, &coords, &[0.; 3], &up, 0.).unwrap();
+    assert_eq!((section.edges.open, section.defaulted), (128, 256));
+}
+
 /// Where all crossings are divided, where there is none, and of stitching.
 #[test]
 fn none() {

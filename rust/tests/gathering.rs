@@ -79,27 +79,32 @@ fn bits(section: &Section) -> (Vec<u64>, &[u32], &[u32], Edges) {
     (points, &section.nodes, &section.ends, section.edges)
 }
 
-/// But for the crossings in the middle by default, which gathering tells and stitching has none of.
+/// But for the crossings in the middle by default, which gathering tells and stitching has none of. A brick with a corner
+/// at NaN has some.
 #[test]
 fn gathered_and_stitched_is_the_plane_cut() {
+    let mut with_nan = BRICK;
+    with_nan[14] = f64::NAN;
     for kind in SpaceType::ALL {
         let nodes = cell(kind).0;
         let (mut loops, mut defaulted) = (0, 0);
         for normal in [UP, [1., 1., 1.], [-3., 1., 0.5], [1e200, 0., 0.]] {
             for origin in [HALF, [0.; 3], [0.25, 0.25, 0.25], [f64::NAN; 3]] {
                 for tol in [0., 1e-12, 0.25, -1., f64::NAN, f64::INFINITY] {
-                    let cut = cut_by_plane(kind, &nodes, &BRICK, &origin, &normal, tol).unwrap();
-                    let found = gather(kind, &nodes, &BRICK, &origin, &normal, tol).unwrap();
-                    let stitched = stitch(&found.segments, tol).unwrap();
-                    assert_eq!(bits(&stitched), bits(&cut));
-                    assert_eq!((found.defaulted, stitched.defaulted), (cut.defaulted, 0));
-                    loops += cut.ends.len();
-                    defaulted += cut.defaulted;
+                    for coords in [BRICK, with_nan] {
+                        let cut =
+                            cut_by_plane(kind, &nodes, &coords, &origin, &normal, tol).unwrap();
+                        let found = gather(kind, &nodes, &coords, &origin, &normal, tol).unwrap();
+                        let stitched = stitch(&found.segments, tol).unwrap();
+                        assert_eq!(bits(&stitched), bits(&cut));
+                        assert_eq!((found.defaulted, stitched.defaulted), (cut.defaulted, 0));
+                        loops += cut.ends.len();
+                        defaulted += cut.defaulted;
+                    }
                 }
             }
         }
-        assert!(loops > 9, "{kind:?} {loops}");
-        assert!(defaulted > 0, "{kind:?}");
+        assert!(loops > 9 && defaulted > 9, "{kind:?} {loops} {defaulted}");
     }
 }
 
