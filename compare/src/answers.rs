@@ -36,7 +36,7 @@ const MOST_SEGMENTS: usize = 384;
 pub const PGON: u8 = 11;
 pub const PHED: u8 = 18;
 
-/// The answer, by this build of the Rust.
+/// The answer, by this build of the Rust. `Build::Rust` tells no crossings in the middle by default: it counts none.
 pub fn answer(case: &Case, build: Build) -> Answer {
     let found = match case.entry {
         Entry::Plane => plane(case, build),
@@ -142,13 +142,19 @@ fn nodes(case: &Case) -> Vec<usize> {
     case.conn.iter().map(|&node| node as usize).collect()
 }
 
-/// What the Rust gives, if neither it nor a length refuses. `fit` says whether origin and vector have theirs.
-fn unrefused<T>(case: &Case, fit: bool, found: Result<T, Stop>) -> Result<T, u32> {
+/// What this cut of the Rust gives, and its crossings in the middle by default, if neither it nor a length refuses. `fit`
+/// says whether origin and vector have theirs.
+fn unrefused<T>(
+    case: &Case,
+    fit: bool,
+    cut: impl FnOnce() -> Result<T, Stop>,
+) -> Result<(T, u32), u32> {
+    let (found, defaulted) = oracle::defaulted(cut);
     match found {
         Err(stop) if stop != Stop::Norm => Err(stop as u32),
         _ if !fit => Err(5),
         Err(_) => Err(6),
-        Ok(found) => with_room(case).map(|()| found),
+        Ok(found) => with_room(case).map(|()| (found, defaulted as u32)),
     }
 }
 
@@ -162,18 +168,18 @@ fn plane(case: &Case, build: Build) -> Result<Answer, u32> {
     let nodes = nodes(case);
     let cell = cell(case, &nodes)?;
     let (fit, origin, normal) = placed(case);
-    let cut = oracle::plane_cut(build, cell, &origin, &normal, case.tol);
-    let cut = unrefused(case, fit, cut)?;
+    let cut = || oracle::plane_cut(build, cell, &origin, &normal, case.tol);
+    let (cut, defaulted) = unrefused(case, fit, cut)?;
     let segments = oracle::plane_segments(build, cell, &origin, &normal, case.tol).unwrap();
-    Ok(section(&cut, &segments, case.tol))
+    Ok(section(&cut, &segments, case.tol, defaulted))
 }
 
 fn gather(case: &Case, build: Build) -> Result<Answer, u32> {
     let nodes = nodes(case);
     let cell = cell(case, &nodes)?;
     let (fit, origin, normal) = placed(case);
-    let found = oracle::plane_segments(build, cell, &origin, &normal, case.tol);
-    Ok(segments(&unrefused(case, fit, found)?))
+    let found = || oracle::plane_segments(build, cell, &origin, &normal, case.tol);
+    Ok(segments(unrefused(case, fit, found)?))
 }
 
 fn stitch(case: &Case, build: Build) -> Result<Answer, u32> {
@@ -187,11 +193,11 @@ fn stitch(case: &Case, build: Build) -> Result<Answer, u32> {
         .map(|s| [[s[0], s[1]], [s[2], s[3]]])
         .collect();
     let found = oracle::stitch(build, &segments, case.tol);
-    Ok(section(&found, &segments, case.tol))
+    Ok(section(&found, &segments, case.tol, 0))
 }
 
 /// A section as it stands in buffers. The counts are the rules', by cosines; the Rust has none.
-fn section(found: &Section, segments: &Segments, tol: f64) -> Answer {
+fn section(found: &Section, segments: &Segments, tol: f64, defaulted: u32) -> Answer {
     let (points, edges) = listed(segments, tol);
     let Edges {
         listed,
@@ -214,6 +220,7 @@ fn section(found: &Section, segments: &Segments, tol: f64) -> Answer {
             in_loops: in_loops as u32,
             flat: flat as u32,
             open: open as u32,
+            defaulted,
             tolerance: 0.0,
         },
         numbers: found.points.as_flattened().to_vec(),
@@ -226,26 +233,27 @@ fn line_in_space(case: &Case, build: Build) -> Result<Answer, u32> {
     let nodes = nodes(case);
     let cell = cell(case, &nodes)?;
     let (fit, origin, direction) = placed(case);
-    let cut = oracle::line_cut(build, cell, &origin, &direction, case.tol);
-    Ok(segments(&unrefused(case, fit, cut)?))
+    let cut = || oracle::line_cut(build, cell, &origin, &direction, case.tol);
+    Ok(segments(unrefused(case, fit, cut)?))
 }
 
 fn plane_cell(case: &Case, build: Build) -> Result<Answer, u32> {
     let nodes = nodes(case);
     let cell = cell(case, &nodes)?;
     let (fit, origin, vector) = placed(case);
-    let cut = match case.entry {
+    let by = match case.entry {
         Entry::PlaneCellByNormal => oracle::plane_cell_by_normal,
         _ => oracle::plane_cell_by_direction,
     };
-    let cut = cut(build, cell, &origin, &vector, case.tol);
-    Ok(segments(&unrefused(case, fit, cut)?))
+    let cut = || by(build, cell, &origin, &vector, case.tol);
+    Ok(segments(unrefused(case, fit, cut)?))
 }
 
-fn segments<const D: usize>(segments: &[Segment<D>]) -> Answer {
+fn segments<const D: usize>((segments, defaulted): (Vec<Segment<D>>, u32)) -> Answer {
     Answer {
         told: Told {
             points: segments.len() as u32,
+            defaulted,
             ..Told::default()
         },
         numbers: segments.as_flattened().as_flattened().to_vec(),

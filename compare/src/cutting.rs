@@ -1,8 +1,9 @@
 //! The linked entries held against mefikit's Rust and the rules' refusals, and their counts against
-//! another walk.
+//! another walk and a plain count of crossings.
 
 use crate::answers::{answer, kept_corners};
 use crate::cuts::{any_case, corner, refusals, sound, spoil};
+use crate::defaulted::{of_case, Crossings, Cuts};
 use crate::entries::{Case, Cut, Entry, Lent, Told};
 use crate::numbers::{agree, alike, same, untouched, UNTOUCHED};
 use crate::random::Random;
@@ -30,6 +31,7 @@ pub struct Right {
     pub told: Told,
     /// The Rust, comparing arccosines, goes another way than with cosines.
     pub arccosine: bool,
+    pub crossings: Crossings,
 }
 
 /// Holds an answer against mefikit's on one case.
@@ -86,7 +88,18 @@ pub fn judge(case: &Case, cut: Cut, buffers: &mut Buffers) -> Result<Right, Stri
     if !right {
         return wrong("differs from the Rust");
     }
-    Ok(Right { told, arccosine })
+    let crossings = match told.refusal {
+        0 => of_case(case),
+        _ => Crossings::default(),
+    };
+    if crossings.defaulted() != told.defaulted {
+        return wrong(&format!("the plain count is {crossings:?}"));
+    }
+    Ok(Right {
+        told,
+        arccosine,
+        crossings,
+    })
 }
 
 fn lend<T: Copy>(buffer: &mut Vec<T>, lent: usize, pattern: T) {
@@ -117,6 +130,8 @@ pub struct Reached {
     pub with_flat: u64,
     pub with_open: u64,
     pub arccosine: u64,
+    /// Those with crossings in the middle by default.
+    pub cuts: Cuts,
     /// Cells with a corner above the tolerance and one below that list no edge.
     pub unlisted: Unlisted,
 }
@@ -162,7 +177,13 @@ impl Unlisted {
 
 impl Reached {
     fn count(&mut self, case: &Case, outcome: Result<Right, String>) {
-        if let Ok(Right { told, arccosine }) = &outcome {
+        if let Ok(Right {
+            told,
+            arccosine,
+            crossings,
+        }) = &outcome
+        {
+            self.cuts.count(crossings, case.tol, gives(case, told));
             self.refused[told.refusal as usize] += 1;
             self.arccosine += u64::from(*arccosine);
             self.loops += u64::from(told.loops);

@@ -1,7 +1,7 @@
 //! The functions of include/cicelybeam.h, called with the inputs and buffers of a case.
 
 use cicelybeam::lent::{cut_by_line, cut_by_plane, cut_plane_cell_by_direction};
-use cicelybeam::lent::{cut_plane_cell_by_normal, gather, stitch, Buffers, Written};
+use cicelybeam::lent::{cut_plane_cell_by_normal, gather, stitch, Buffers, Written, WrittenLine};
 use cicelybeam::{tolerance_in_plane, tolerance_in_space, Refusal};
 
 /// Which function, by the number that recorded answers have for it. 8 is the square root.
@@ -128,6 +128,8 @@ pub struct Told {
     pub in_loops: u32,
     pub flat: u32,
     pub open: u32,
+    /// Crossings in the middle by default.
+    pub defaulted: u32,
     pub tolerance: f64,
 }
 
@@ -195,13 +197,15 @@ fn section(found: Result<Written, Refusal>) -> Told {
         in_loops: found.edges.in_loops,
         flat: found.edges.flat,
         open: found.edges.open,
+        defaulted: found.defaulted,
         tolerance: 0.0,
     })
 }
 
-fn segments(found: Result<usize, Refusal>) -> Told {
-    found.map_or_else(refused, |many| Told {
-        points: many as u32,
+fn segments(found: Result<WrittenLine, Refusal>) -> Told {
+    found.map_or_else(refused, |found| Told {
+        points: found.segments as u32,
+        defaulted: found.defaulted,
         ..Told::default()
     })
 }

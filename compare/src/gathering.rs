@@ -21,13 +21,16 @@ pub struct Gathered {
     pub segments: u64,
     /// The faces that were handed over alone.
     pub faces: u64,
+    /// The crossings in the middle by default that gathering and the plane cut tell.
+    pub defaulted: u64,
 }
 
-/// What one cell showed: the refusal of its plane cut, its segments and its faces.
+/// What one cell showed: the refusal of its plane cut, its segments, its faces and its crossings in the middle by default.
 pub struct Right {
     pub refusal: u32,
     pub segments: usize,
     pub faces: usize,
+    pub defaulted: u32,
 }
 
 /// Holds gathering, then stitching, against the plane cut of this case.
@@ -44,16 +47,31 @@ pub fn judge(case: &Case, cut: Cut) -> Result<Right, String> {
         0 => face_by_face(gathering, cut),
         _ => Vec::new(),
     };
-    if !agree(same, &gathered.numbers, &alone.concat()) {
+    let numbers: Vec<f64> = alone.iter().flat_map(|one| one.numbers.clone()).collect();
+    if !agree(same, &gathered.numbers, &numbers) {
         return wrong("the segments are not those of the faces");
     }
-    if section.told.refusal == 0 && !stitched(&gathered, case.tol, cut).is(&section, same) {
-        return wrong("gathered and stitched is not the plane cut");
+    let defaulted = gathered.told.defaulted;
+    if alone.iter().map(|one| one.told.defaulted).sum::<u32>() != defaulted {
+        return wrong("the crossings in the middle by default are not those of the faces");
+    }
+    if section.told.refusal == 0 {
+        let mut again = stitched(&gathered, case.tol, cut);
+        if again.told.defaulted != 0 {
+            return wrong("stitching tells crossings in the middle by default");
+        }
+        again.told.defaulted = defaulted;
+        if !again.is(&section, same) {
+            return wrong(
+                "gathered and stitched, with the crossings gathered, is not the plane cut",
+            );
+        }
     }
     Ok(Right {
         refusal: section.told.refusal,
         segments: gathered.told.points as usize,
         faces: alone.len(),
+        defaulted,
     })
 }
 
@@ -86,7 +104,7 @@ fn stitched(gathered: &Answer, tol: f64, cut: Cut) -> Answer {
 }
 
 /// What is gathered of each kept face, as a polyhedron of this face alone in a buffer of the least length.
-fn face_by_face(cell: Case, cut: Cut) -> Vec<Vec<f64>> {
+fn face_by_face(cell: Case, cut: Cut) -> Vec<Answer> {
     let nodes: Vec<usize> = cell.conn.iter().map(|&node| node as usize).collect();
     let faces = oracle::faces(cell.number, &nodes).unwrap();
     let mut alone = Case {
@@ -96,7 +114,7 @@ fn face_by_face(cell: Case, cut: Cut) -> Vec<Vec<f64>> {
     let gather = |face: Vec<usize>| {
         alone.conn = face.iter().map(|&at| nodes[at] as u64).collect();
         alone.lent = room(&alone);
-        given(&alone, cut).numbers
+        given(&alone, cut)
     };
     faces.into_iter().map(gather).collect()
 }
@@ -121,6 +139,7 @@ pub fn compare(cases: u64, cut: Cut) -> Gathered {
             all.refused[right.refusal as usize] += 1;
             all.segments += right.segments as u64;
             all.faces += right.faces as u64;
+            all.defaulted += u64::from(right.defaulted);
             if right.refusal == 0 {
                 all.answered.count(case.number);
             }
@@ -187,16 +206,20 @@ mod tests {
         assert!(types.all(|number| all.answered.of(number) > 100));
         assert!(all.refused[..8].iter().all(|&count| count > 0));
         assert!(all.segments > all.found.cases && all.faces > all.found.cases);
+        assert!(all.defaulted > all.found.cases / 10);
     }
 
-    /// The three builds differ in stitching and in the sign of zeros only.
+    /// The builds differ in stitching and in the sign of zeros only, and the Rust as it stands counts no crossings.
     #[test]
     fn each_build_gathers_alike() {
         let mut random = Random::new(1);
         for _ in 0..3_000 {
             let case = any_case(&mut random, Entry::Gather);
-            let [rust, cosine, rules] = BUILDS.map(|build| answer(&case, build));
-            assert_eq!([rust.told, cosine.told], [rules.told; 2]);
+            let [mut rust, counted, cosine, rules] = BUILDS.map(|build| answer(&case, build));
+            assert_eq!(rust.told.defaulted, 0);
+            rust.told.defaulted = rules.told.defaulted;
+            assert_eq!([rust.told, counted.told, cosine.told], [rules.told; 3]);
+            assert!(agree(same, &rust.numbers, &counted.numbers));
             assert!(agree(same, &rust.numbers, &cosine.numbers));
             assert!(agree(alike, &rust.numbers, &rules.numbers));
         }
@@ -240,6 +263,9 @@ mod tests {
     fn a_wrong_stitching_or_plane_cut_is_seen() {
         seen(&[
             |case, lent| changed(case, lent, Entry::Stitch, |told, _| told.flat += 1),
+            |case, lent| changed(case, lent, Entry::Stitch, |told, _| told.defaulted += 1),
+            |case, lent| changed(case, lent, Entry::Plane, |told, _| told.defaulted += 1),
+            |case, lent| changed(case, lent, Entry::Gather, |told, _| told.defaulted += 1),
             |case, lent| changed(case, lent, Entry::Plane, |told, _| told.open += 1),
             |case, lent| changed(case, lent, Entry::Plane, |_, numbers| numbers[1] += 1.0),
             |case, lent| match case.entry {

@@ -7,6 +7,8 @@ pub mod cells;
 pub mod cuts;
 #[cfg(feature = "mefikit")]
 pub mod cutting;
+#[cfg(feature = "mefikit")]
+pub mod defaulted;
 pub mod entries;
 pub mod faces;
 #[cfg(feature = "mefikit")]

@@ -2,7 +2,7 @@
 //! makes callable for tests.
 
 mod linked {
-    use super::Stitched;
+    use super::{Clipped, Stitched};
 
     extern "C" {
         pub fn trial_space_segments(
@@ -15,7 +15,7 @@ mod linked {
             points_len: usize,
             out: *mut f64,
             out_len: usize,
-        ) -> usize;
+        ) -> Clipped;
         pub fn trial_plane_segments(
             poly: *const f64,
             poly_len: usize,
@@ -26,7 +26,7 @@ mod linked {
             points_len: usize,
             out: *mut f64,
             out_len: usize,
-        ) -> usize;
+        ) -> Clipped;
         pub fn trial_stitch(
             segments: *const f64,
             segments_len: usize,
@@ -82,14 +82,22 @@ pub fn sqrt(x: f64) -> f64 {
     cicelybeam::sqrt(x)
 }
 
-/// The segments of a polygon, written to `out`; how many there are, or [`REFUSED`]. The width is 2 or 3.
+/// How many segments clipping wrote, or [`REFUSED`], and its crossings in the middle by default.
+#[repr(C)]
+#[derive(Clone, Copy, Debug, PartialEq, Eq)]
+pub struct Clipped {
+    pub segments: usize,
+    pub defaulted: usize,
+}
+
+/// The segments of a polygon, written to `out`. The width is 2 or 3.
 pub fn segments<const D: usize>(
     polygon: &[[f64; D]],
     placed: &[[f64; D]; 2],
     tol: f64,
     points: &mut [f64],
     out: &mut [f64],
-) -> usize {
+) -> Clipped {
     let clip = match D {
         2 => linked::trial_plane_segments,
         3 => linked::trial_space_segments,

@@ -141,7 +141,7 @@ fn compared(name: &str, rounds: u32, case: &Case) {
 }
 
 fn expected(case: &Case) -> Told {
-    answer(case, Build::Rust).told
+    answer(case, Build::Counted).told
 }
 
 fn by_the_rust(rounds: u32, case: &Case) -> f64 {

@@ -71,6 +71,9 @@ fn print_reached(reached: &Reached) {
             reached.with_open
         ));
     }
+    if reached.cuts.defaulted > 0 {
+        reached.cuts.print();
+    }
     if reached.arccosine > 0 {
         line(format!(
             "{} on which the Rust, comparing arccosines, goes another way than with cosines",

@@ -2,7 +2,7 @@
 
 use compare::faces::Face;
 use compare::nanoseconds;
-use compare::proved;
+use compare::proved::{self, Clipped};
 use std::hint::black_box;
 
 fn main() {
@@ -54,7 +54,11 @@ fn compared(name: &str, rounds: u32, segments: usize, face: &Face<3>) {
     let mut ours = |face: &Face<3>, placed| {
         proved::segments(&face.polygon, placed, face.tol, &mut points, &mut out)
     };
-    assert_eq!(ours(face, &placed), segments);
+    let expected = Clipped {
+        segments,
+        defaulted: 0,
+    };
+    assert_eq!(ours(face, &placed), expected);
     let proved = nanoseconds(rounds, || ours(black_box(face), black_box(&placed)));
     let rust = nanoseconds(rounds, || {
         let face = black_box(face);

@@ -22,6 +22,7 @@ fn main() -> ExitCode {
     line(format!("answered, by type: {}", reached.answered.told()));
     line(format!("give some, by type: {}", reached.giving.told()));
     line(refused_by(&reached.refused));
+    reached.cuts.print();
     println!("each set of refusals for each type, of which the first must be told:");
     let refusals = compare_refusals(Entry::Gather, TURNS, ours);
     refusals.print("space cells gathered", "are refused");
@@ -33,8 +34,8 @@ fn main() -> ExitCode {
     line(format!("answered, by type: {}", gathered.answered.told()));
     line(refused_by(&gathered.refused));
     line(format!(
-        "{} segments, and {} faces handed over alone",
-        gathered.segments, gathered.faces
+        "{} segments, {} faces handed over alone, and {} crossings in the middle by default",
+        gathered.segments, gathered.faces, gathered.defaulted
     ));
     let differing = reached.found.differing + refusals.differing + gathered.found.differing;
     println!(

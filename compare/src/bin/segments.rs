@@ -2,7 +2,8 @@
 //! width.
 
 use compare::faces::groups;
-use compare::{cases_asked, segments, vectors, Found};
+use compare::segments::{self, Clippings};
+use compare::{cases_asked, vectors};
 use std::process::ExitCode;
 use std::time::Instant;
 
@@ -12,8 +13,8 @@ fn main() -> ExitCode {
     let cases = cases_asked("segments", FULL);
     let start = Instant::now();
     let mut differing = 0;
-    for found in [width::<3>("space", cases), width::<2>("the plane", cases)] {
-        differing += found.differing;
+    for all in [width::<3>("space", cases), width::<2>("the plane", cases)] {
+        differing += all.found.differing;
     }
     println!("vectors, with the bits of the rules, NaN alike, and alike to the Rust's:");
     for (name, judge) in vectors::KINDS {
@@ -29,16 +30,21 @@ fn main() -> ExitCode {
 }
 
 /// Every group at one width, printed.
-fn width<const D: usize>(name: &str, cases: u64) -> Found {
+fn width<const D: usize>(name: &str, cases: u64) -> Clippings {
     println!("faces in {name}, with the bits of the rules, NaN alike, and alike to the Rust's:");
-    let mut all = Found::default();
+    let mut all = Clippings::default();
     for group in &groups::<D>() {
-        let found = segments::compare(group, cases, segments::ours);
+        let Clippings { found, cuts } = segments::compare(group, cases, segments::ours);
         found.print(group.0, "give some");
-        all.cases += found.cases;
-        all.giving += found.giving;
-        all.differing += found.differing;
+        if cuts.defaulted > 0 {
+            cuts.print();
+        }
+        all.found.cases += found.cases;
+        all.found.giving += found.giving;
+        all.found.differing += found.differing;
+        all.cuts.add(&cuts);
     }
-    all.print("faces in all", "give some");
+    all.found.print("faces in all", "give some");
+    all.cuts.print();
     all
 }

@@ -16,8 +16,12 @@ const SECTIONS: [Entry; 2] = [Entry::Plane, Entry::Stitch];
 
 /// A wrong cut is seen with each of these entries.
 fn seen(entries: &[Entry], cut: Cut) {
+    seen_among(3_000, entries, cut);
+}
+
+fn seen_among(cases: u64, entries: &[Entry], cut: Cut) {
     for &entry in entries {
-        assert!(compare(entry, 3_000, cut).found.differing > 0, "{entry:?}");
+        assert!(compare(entry, cases, cut).found.differing > 0, "{entry:?}");
     }
 }
 
@@ -79,6 +83,25 @@ fn everything_is_reached() {
                 "{entry:?}"
             );
         }
+        let cuts = reached.cuts;
+        if CUTS[..5].contains(&entry) {
+            assert!(cuts.defaulted > 20_000 / 50, "{entry:?} {cuts:?}");
+            let kinds = [
+                cuts.nan,
+                cuts.less,
+                cuts.least_normal,
+                cuts.more,
+                cuts.infinite,
+            ];
+            let odd = [cuts.negative_tolerance, cuts.giving_nothing];
+            assert!(
+                kinds.iter().chain(&odd).all(|&many| many > 10),
+                "{entry:?} {cuts:?}"
+            );
+        } else {
+            assert_eq!(cuts.defaulted, 0, "{entry:?}");
+        }
+        assert_eq!(cuts.of_both > 0, entry == Entry::LineInSpace);
         if SECTIONS.contains(&entry) {
             assert!(reached.with_flat > 0 && reached.with_open > 0, "{entry:?}");
         }
@@ -112,6 +135,56 @@ fn a_wrong_count_is_seen() {
     });
 }
 
+/// One more, of stitching too; none; only those whose points are left; each kind left out or counted too; those of the
+/// plane that holds a line alone, and those on its loops alone.
+#[test]
+fn a_wrong_count_of_crossings_is_seen() {
+    seen(&CUTS, |case, lent| {
+        retold(case, lent, |told| told.defaulted += 1)
+    });
+    seen(&CUTS[..5], |case, lent| {
+        retold(case, lent, |told| told.defaulted = 0)
+    });
+    seen(&CUTS[..5], |case, lent| {
+        retold(case, lent, |told| {
+            if told.points == 0 {
+                told.defaulted = 0;
+            }
+        })
+    });
+    fn recounted(case: &Case, lent: Lent, count: fn(&Crossings) -> u32) -> Told {
+        let mut told = ours(case, lent);
+        if told.refusal == 0 {
+            told.defaulted = count(&of_case(case));
+        }
+        told
+    }
+    let wrong: [Cut; 5] = [
+        |case, lent| recounted(case, lent, |c| c.less + c.least_normal),
+        |case, lent| recounted(case, lent, |c| c.nan + c.least_normal),
+        |case, lent| recounted(case, lent, |c| c.nan + c.less),
+        |case, lent| recounted(case, lent, |c| c.defaulted() + c.more),
+        |case, lent| recounted(case, lent, |c| c.defaulted() + c.infinite),
+    ];
+    for cut in wrong {
+        seen_among(20_000, &CUTS[..5], cut);
+    }
+    seen_among(20_000, &[Entry::LineInSpace], |case, lent| {
+        recounted(case, lent, |c| c.defaulted() - c.on_loops)
+    });
+    seen_among(20_000, &[Entry::LineInSpace], |case, lent| {
+        recounted(case, lent, |c| c.on_loops)
+    });
+    assert_eq!(
+        compare(Entry::LineInSpace, 3_000, |case, lent| {
+            recounted(case, lent, Crossings::defaulted)
+        })
+        .found
+        .differing,
+        0
+    );
+}
+
 #[test]
 fn a_dropped_loop_is_seen() {
     seen(&SECTIONS, |case, lent| {
@@ -132,6 +205,11 @@ fn a_refusal_that_tells_more_is_seen() {
     seen(&CUTS, |case, lent| {
         let mut told = ours(case, lent);
         told.points += u32::from(told.refusal > 0);
+        told
+    });
+    seen(&CUTS, |case, lent| {
+        let mut told = ours(case, lent);
+        told.defaulted += u32::from(told.refusal > 0);
         told
     });
 }
