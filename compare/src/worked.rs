@@ -1,4 +1,5 @@
-//! The rules' worked cases, each with the answer told there, written from its words.
+//! The rules' worked cases, each with the answer told there, written from its words; and cases of crossings in the middle by
+//! default, worked by hand.
 //!
 //! Case 12, two square roots, is no case of an entry that compares with the Rust: it stands in `roots`.
 
@@ -33,6 +34,24 @@ pub const NAMES: [&str; 15] = [
     "brick at z = 0.5, gathered",
 ];
 
+/// What the cases of crossings in the middle by default are about. They are numbered on from the last of `NAMES`.
+pub const BY_DEFAULT: [&str; 10] = [
+    "distances that differ by 2^-1073",
+    "distances that differ by 2^-1022",
+    "distances just above 2^-1022 apart, divided",
+    "a distance of NaN, the point skipped",
+    "infinities on both sides, divided",
+    "brick of side 1e-310, the points skipped",
+    "a tolerance of -2^-1074",
+    "a tolerance of NaN, no crossing",
+    "a slanted wedge, six of its plane",
+    "a line in it, six of its plane and two of its loop",
+];
+
+/// 2^-1074 and 2^-1022.
+const LEAST: f64 = f64::from_bits(1);
+const LEAST_NORMAL: f64 = f64::MIN_POSITIVE;
+
 /// A case, its number in docs/RULES.md, and its answer there.
 #[derive(Clone)]
 pub struct Worked {
@@ -53,6 +72,7 @@ pub fn worked() -> Vec<Worked> {
     all.extend(stitched());
     all.extend(placed());
     all.extend(limits());
+    all.extend(by_default());
     for one in &mut all {
         one.case.lent = room(&one.case);
     }
@@ -190,6 +210,115 @@ fn limits() -> Vec<Worked> {
         is(14, polygon(256), halved),
         is(14, polygon(257), refused(2)),
     ]
+}
+
+/// The triangle (0, high) (4, high) low cut by the axis y = 0 crosses it on two sides; where these lie in the middle they
+/// are (2, 0) and (0, 0) if low is (0, -high).
+fn by_default() -> Vec<Worked> {
+    let number = |k: usize| NAMES.len() + k;
+    let [normal, direction] = [Entry::PlaneCellByNormal, Entry::PlaneCellByDirection];
+    let middles = || with(2, segments(&[2.0, 0.0, 0.0, 0.0], 1));
+    let half = LEAST_NORMAL / 2.0;
+    // a step of 2^-52 from each corner above towards the one below
+    let divided = segments(&[4.0 - 2f64.powi(-50), 0.0, 0.0, 0.0], 1);
+    let infinity = f64::INFINITY;
+    let odd = |high, low: f64, tol| Case {
+        tol,
+        ..triangle_across(normal, high, [0.0, low])
+    };
+    let nan = triangle_across(normal, 1.0, [f64::NAN, -1.0]);
+    let [a, b, c] = [[5.0, LEAST], [1.0, LEAST], [3.0, -LEAST]];
+    let sides = [a, b, c, a, b, c];
+    let loops = section(&[a, b, c], &[&[0, 1, 2]], [3, 3, 0, 0]);
+    let line = segments(&[2.0, 0.0, 0.0, 4.0, 0.0, 0.0], 1);
+    let on_y = [0.0, -1.0, 0.0];
+    vec![
+        is(
+            number(1),
+            triangle_across(normal, LEAST, [0.0, -LEAST]),
+            middles(),
+        ),
+        is(
+            number(1),
+            triangle_across(direction, LEAST, [0.0, -LEAST]),
+            middles(),
+        ),
+        is(
+            number(2),
+            triangle_across(normal, half, [0.0, -half]),
+            middles(),
+        ),
+        is(
+            number(2),
+            triangle_across(direction, half, [0.0, -half]),
+            middles(),
+        ),
+        is(
+            number(3),
+            triangle_across(normal, LEAST, [0.0, -LEAST_NORMAL]),
+            divided,
+        ),
+        is(number(4), nan, with(2, none())),
+        is(
+            number(5),
+            triangle_across(normal, infinity, [0.0, -infinity]),
+            none(),
+        ),
+        is(number(6), small_brick(Entry::Plane), with(8, none())),
+        is(number(6), small_brick(Entry::Gather), with(8, none())),
+        is(number(7), odd(LEAST, 0.0, -LEAST), with(2, none())),
+        is(number(8), odd(LEAST, -LEAST, f64::NAN), none()),
+        is(number(9), wedge(Entry::Plane, &on_y), with(6, loops)),
+        is(
+            number(9),
+            wedge(Entry::Gather, &on_y),
+            with(6, segments(sides.as_flattened(), 3)),
+        ),
+        is(
+            number(10),
+            wedge(Entry::LineInSpace, &[1.0, 0.0, 0.0]),
+            with(8, line),
+        ),
+    ]
+}
+
+/// The triangle, cut by the axis y = 0, which its normal or its direction gives.
+fn triangle_across(entry: Entry, high: f64, low: [f64; 2]) -> Case {
+    let vector = match entry {
+        Entry::PlaneCellByNormal => [0.0, 1.0],
+        _ => [1.0, 0.0],
+    };
+    cell(
+        entry,
+        5,
+        &[0.0, high, 4.0, high, low[0], low[1]],
+        &[0.0; 2],
+        &vector,
+    )
+}
+
+/// The plane crosses each of the four sides that stand on the base twice. All of it is one point, so where a crossing is
+/// not the first point of its face it is skipped, and each face has one point.
+fn small_brick(entry: Entry) -> Case {
+    let coords = UNIT_CUBE.map(|x| x * 1e-310);
+    cell(entry, 14, &coords, &[0.0, 0.0, 5e-311], &UP)
+}
+
+/// The corners of a wedge at y = -2^-1074 and, moved by 2 along x, at y = 2^-1074: the same triangle of x and z at each end. So
+/// the plane y = 0 crosses each of the three edges between in the middle, moved by 1, in two faces.
+fn wedge(entry: Entry, vector: &[f64; 3]) -> Case {
+    let end = |x: f64, y| [x, y, LEAST, x + 4.0, y, LEAST, x + 2.0, y, -LEAST];
+    let coords = [end(0.0, -LEAST), end(2.0, LEAST)].concat();
+    cell(entry, 16, &coords, &[0.0; 3], vector)
+}
+
+/// The answer with so many crossings in the middle by default.
+fn with(defaulted: u32, answer: Answer) -> Answer {
+    let told = Told {
+        defaulted,
+        ..answer.told
+    };
+    Answer { told, ..answer }
 }
 
 fn is(number: usize, case: Case, answer: Answer) -> Worked {
@@ -349,8 +478,13 @@ mod tests {
     #[test]
     fn what_the_paper_tells_is_the_rusts() {
         for one in worked_in_all_buffers() {
+            let counted = answer(&one.case, Build::Counted);
+            assert_eq!(counted.told, one.answer.told, "case {}", one.number);
             let rust = answer(&one.case, Build::Rust);
-            assert_eq!(rust.told, one.answer.told, "case {}", one.number);
+            assert_eq!(
+                with(counted.told.defaulted, rust.clone()).told,
+                counted.told
+            );
             assert_eq!(rust.numbers, one.answer.numbers, "case {}", one.number);
             assert_eq!(rust.nodes, one.answer.nodes, "case {}", one.number);
             assert_eq!(rust.ends, one.answer.ends, "case {}", one.number);

@@ -9,8 +9,11 @@ use oracle::Build;
 /// What is made wrong in an answer.
 type Spoil = fn(&mut Answer);
 
+/// One crossing in the middle by default too many.
+const DEFAULTED: Spoil = |a| a.told.defaulted += 1;
+
 /// Each thing that is compared.
-const THINGS: [Spoil; 17] = [
+const THINGS: [Spoil; 18] = [
     |a| a.told.refusal += 1,
     |a| a.told.points += 1,
     |a| a.told.nodes += 1,
@@ -19,6 +22,7 @@ const THINGS: [Spoil; 17] = [
     |a| a.told.in_loops += 1,
     |a| a.told.flat += 1,
     |a| a.told.open += 1,
+    DEFAULTED,
     // a point, a node, an end
     |a| a.numbers[3] += 1.0,
     |a| a.nodes[3] += 1,
@@ -33,7 +37,7 @@ const THINGS: [Spoil; 17] = [
     |a| a.ends.clear(),
 ];
 
-/// Records of the brick's section with each thing wrong, and of every other entry with a number of the answer wrong.
+/// Records of the brick's section with each thing wrong, and of every other entry with each number of the answer wrong.
 pub fn wrong() -> Vec<Vec<u64>> {
     let up = [0.0, 0.0, 1.0];
     let section = brick(Entry::Plane, [0.0, 0.0, 0.5], up);
@@ -47,11 +51,13 @@ pub fn wrong() -> Vec<Vec<u64>> {
     };
     let point: Spoil = |a| a.told.points += 1;
     let value: Spoil = |a| a.told.tolerance *= 2.0;
+    let lines = [
+        brick(Entry::Gather, [0.0, 0.0, 0.5], up),
+        brick(Entry::LineInSpace, [0.5; 3], up),
+        square(Entry::PlaneCellByNormal),
+        square(Entry::PlaneCellByDirection),
+    ];
     let others = [
-        (brick(Entry::Gather, [0.0, 0.0, 0.5], up), point),
-        (brick(Entry::LineInSpace, [0.5; 3], up), point),
-        (square(Entry::PlaneCellByNormal), point),
-        (square(Entry::PlaneCellByDirection), point),
         (stitch, point),
         (tolerance(Entry::ToleranceInSpace), value),
         (tolerance(Entry::ToleranceInPlane), value),
@@ -60,6 +66,9 @@ pub fn wrong() -> Vec<Vec<u64>> {
         .iter()
         .map(|thing| spoilt(&section, *thing))
         .collect();
+    for thing in [point, DEFAULTED] {
+        all.extend(lines.iter().map(|case| spoilt(case, thing)));
+    }
     all.extend(others.iter().map(|(case, thing)| spoilt(case, *thing)));
     all.push(root_words(4.0, -2.0));
     all
@@ -69,7 +78,7 @@ pub fn wrong() -> Vec<Vec<u64>> {
 fn spoilt(case: &Case, spoil: Spoil) -> Vec<u64> {
     let mut case = case.clone();
     case.lent = room(&case).map(|n| n + 5);
-    let mut answer = answer(&case, Build::Rust);
+    let mut answer = answer(&case, Build::Counted);
     spoil(&mut answer);
     words(&case, &answer)
 }

@@ -9,7 +9,7 @@ use compare::numbers::alike;
 use compare::random::Random;
 use compare::recorded::{file, root_words, words, Group};
 use compare::roots::{sample, GROUPS};
-use compare::worked::{roots, worked_in_all_buffers, Worked, NAMES};
+use compare::worked::{roots, worked_in_all_buffers, Worked, BY_DEFAULT, NAMES};
 use compare::wrong::wrong;
 use oracle::Build;
 use std::process::ExitCode;
@@ -30,8 +30,8 @@ const SHARES: [(Entry, &str, usize); 8] = [
 const ROOTS: [usize; 6] = [800, 1000, 800, 700, 776, 20];
 
 /// The most words of a random case, and of one with two things wrong.
-const MOST_WORDS: usize = 203;
-const MOST_WORDS_REFUSED: usize = 403;
+const MOST_WORDS: usize = 204;
+const MOST_WORDS_REFUSED: usize = 404;
 
 /// A case and its right answer.
 type Right = (Case, Answer);
@@ -71,7 +71,8 @@ fn main() -> ExitCode {
     ExitCode::from(u8::from(differing > 0))
 }
 
-/// The worked cases, by their number. Case 12, two square roots, has none here.
+/// The worked cases by their number, and those of crossings in the middle by default by their name. Case 12, two square
+/// roots, has none here.
 fn cases_worked() -> Vec<(String, Vec<Right>)> {
     let all = worked_in_all_buffers();
     let of = |number| {
@@ -80,7 +81,11 @@ fn cases_worked() -> Vec<(String, Vec<Right>)> {
         cases.map(right).collect()
     };
     let name = |(k, name)| (format!("case {}, {name}", k + 1), of(k + 1));
-    NAMES.iter().enumerate().map(name).collect()
+    let mut named: Vec<(String, Vec<Right>)> = NAMES.iter().enumerate().map(name).collect();
+    let first = NAMES.len() + 1;
+    let by_default = |(k, name)| (format!("by default, {name}"), of(first + k));
+    named.extend(BY_DEFAULT.iter().enumerate().map(by_default));
+    named
 }
 
 /// Random cases of an entry, and its refusals.
@@ -113,7 +118,7 @@ fn square_roots() -> Group {
 
 /// The case and the Rust's answer, unless its arccosines take it another way than cosines.
 fn recorded(case: Case) -> Option<Right> {
-    let [rust, cosine] = [Build::Rust, Build::ByCosine].map(|build| answer(&case, build));
+    let [rust, cosine] = [Build::Counted, Build::ByCosine].map(|build| answer(&case, build));
     rust.is(&cosine, alike).then_some((case, rust))
 }
 
