@@ -9,16 +9,13 @@ const NAN: f64 = f64::NAN;
 const EDGE: f64 = f64::MIN_POSITIVE;
 const LEAST: f64 = 5e-324;
 
-/// The triangle (0, high) (4, high) (low.x, low.y), cut by the axis y = 0.
+/// The triangle (0, high) (4, high) low, cut by the axis y = 0, which its normal or its direction gives.
 fn triangle(high: f64, low: [f64; 2], tol: f64) -> Line<2> {
     let coords = [0., high, 4., high, low[0], low[1]];
-    let cut =
-        |cut: fn(PlaneType, &[u64], &[f64], &[f64], &[f64], f64) -> Result<Line<2>, Refusal>,
-         vector: &[f64]| {
-            cut(PlaneType::Tri3, &[0, 1, 2], &coords, &[0., 0.], vector, tol).unwrap()
-        };
-    let by_normal = cut(cut_plane_cell_by_normal, &[0., 1.]);
-    let by_direction = cut(cut_plane_cell_by_direction, &[1., 0.]);
+    let (tri, nodes, origin) = (PlaneType::Tri3, [0, 1, 2], [0., 0.]);
+    let by_normal = cut_plane_cell_by_normal(tri, &nodes, &coords, &origin, &[0., 1.], tol);
+    let by_direction = cut_plane_cell_by_direction(tri, &nodes, &coords, &origin, &[1., 0.], tol);
+    let [by_normal, by_direction] = [by_normal.unwrap(), by_direction.unwrap()];
     assert_eq!(by_direction.defaulted, by_normal.defaulted);
     by_normal
 }
@@ -112,7 +109,7 @@ fn a_line_in_space_adds_those_of_its_loops() {
 #[test]
 fn the_most_of_one_face() {
     let nodes: Vec<u64> = (0..256).collect();
-    let height = |k: usize| if k % 2 == 0 { LEAST } else { -LEAST };
+    let height = |k: usize| if k.is_multiple_of(2) { LEAST } else { -LEAST };
     let rows: Vec<[f64; 2]> = (0..256).map(|k| [k as f64, height(k)]).collect();
     let flat = rows.as_flattened();
     let by_normal =
