@@ -1,12 +1,12 @@
--- The segments of a cell are those of its faces, each handed over alone as a polyhedron. Assumes nothing.
+-- The segments of a cell, and its crossings by default, are those of its faces, each handed over alone as a polyhedron. Assumes nothing.
+use Rattle.std.proofs.lemmas.List.Sums.{sum_by-cons}
 use mathlib.Core.Path.{◌≡◌, refl, sym, ap, ◌∙◌, subst}
 use mathlib.Core.List.{List, [], ◌∷◌, ◌++◌, append-nil, map, map-id, map-map, flatten}
 use mathlib.Core.Bool.{Bool, true, false, cond, ◌&&◌}
-use Prim.Native.Nat.{ℕ, zero, suc, ◌*◌, ◌/◌, ◌%◌, ◌≤◌, ◌<◌}
+use Prim.Native.Nat.{ℕ, zero, suc, ◌+◌, ◌*◌, ◌/◌, ◌%◌, ◌≤◌, ◌<◌}
 use native.Mathlib.Omega.{arith}
 use borrow.Author.Tests.{eqb-false, eqb-true, le-leb, leb-true, ltb-false, ne_eqb}
 use lib.Dec.{T, eqb, leb, ltb, ltb→lt}
-use lib.Ieee.{Float}
 use lib.Ieee.Bits.{is_true}
 use lib.Ieee.Fits.{and_i, and_l, and_r}
 use lib.ListN.{length, get_or, length-append, length-map}
@@ -25,11 +25,14 @@ use Rattle.cell.proofs.Answers.{counts_right, polygons_size, space_read, wrong_c
 use Rattle.cell.proofs.Polygon.{length_from}
 use Rattle.cell.proofs.Polyhedron.{kept_long}
 use Rattle.clip.specs.Cell.{cut_by, face_segments}
+use Rattle.clip.specs.Defaulted.{defaulted}
 use Rattle.walk.specs.Walk.{All}
 use Rattle.cuts.specs.Cuts.{Through, cut_cell, place_in, segments_on}
+use Rattle.cuts.specs.Defaulted.{defaulted_on}
 use Rattle.cuts.specs.declared.Way.TheVariants.{Normal}
 use Rattle.cuts.proofs.Sizes.{found_few}
-use Rattle.gather.specs.Gather.{FaceByFace, face_alone, gather_cut, gather_each, gather_in}
+use Rattle.gather.specs.Gather.{FaceByFace, face_alone, gather_cut, gather_each}
+use Rattle.gather.specs.Defaulted.{DefaultedFaceByFace, count_each, gather_defaulted}
 
 -- ---- a list without separators is one stretch
 
@@ -138,33 +141,6 @@ rows_append c r (p ∷ ps) qs h =
     let rest = rows_append c r ps qs (and_r x (are_rows c r (ps ++ qs)) h) in
     (and_i x (are_rows c r ps) (and_l x (are_rows c r (ps ++ qs)) h) rest.0, rest.1)
 
-module _ (k : Cell) (whole : length k.coords % 3 ≡ 0) (few : length k.coords ≤ separator) (g : Through) (tol : Float) (a : ℕ)
-    (f : Plane) (placed : place_in Normal g ≡ found f) where
-  one : (p : Face) → 3 ≤ length p → length p ≤ 256 → T (are_rows k.conn (length k.coords / 3) p) → 6 * length p ≤ a
-      → gather_cut (face_alone k p) g tol a ≡ found (face_segments (cut_by f tol) f (map (corner 3 k.conn k.coords) p))
-  unfolding flatten
-  one p three most are room =
-      let q = map (corner 3 k.conn k.coords) p in
-      let n : length (q ++ []) ≡ length p = ap length (append-nil q) ∙ length-map p (corner 3 k.conn k.coords) in
-      ap (λ c. cut_cell c (place_in Normal g) (gather_in tol a)) (face_read k whole few p three most are)
-      ∙ ap (λ y. cut_cell (found (q ∷ [])) y (gather_in tol a)) placed
-      ∙ ap (λ b. unless 7 b (found (segments_on f tol (q ∷ [])))) (le-leb (6 * length (q ++ [])) a (omega (arith, n)))
-      ∙ ap found (append-nil (face_segments (cut_by f tol) f q))
-
-  each : (fs : List Face) → All (λ p. 3 ≤ length p) fs → length (flatten fs) ≤ 256
-      → T (are_rows k.conn (length k.coords / 3) (flatten fs)) → 6 * length (flatten fs) ≤ a
-      → gather_each g tol a (map (face_alone k) fs) ≡ found (segments_on f tol (polygons 3 k.conn k.coords fs))
-  unfolding flatten
-  each [] h most are room = refl
-  each (p ∷ fs) h most are room =
-      let n = length-append p (flatten fs) in
-      let r = rows_append k.conn (length k.coords / 3) p (flatten fs) are in
-      let q = map (corner 3 k.conn k.coords) p in
-      ap (λ o. and_then o (λ ss. and_then (gather_each g tol a (map (face_alone k) fs)) (λ rest. found (ss ++ rest))))
-      (one p h.0 (omega (arith, n)) r.0 (omega (arith, n)))
-      ∙ ap (λ o. and_then o (λ rest. found (face_segments (cut_by f tol) f q ++ rest)))
-      (each fs h.1 (omega (arith, n)) r.1 (omega (arith, n)))
-
 -- ---- a cell that was gathered
 
 -- its coordinates are whole rows
@@ -179,28 +155,98 @@ whole_rows k ps r = by_test (eqb (length k.coords % 3) 0) refl
         (sym (wrong_coordinates 3 k.conn k.coords _ _ _ (ap typed_in_space read.known) read.passed.allowed
         (eqb-false (length k.coords % 3) 0 e)) ∙ r))
 
-pub face_by_face : FaceByFace
-face_by_face k g tol a ss few e = by_cell (space_cell k) refl (place_in Normal g) refl e
-  where
-    by_room : (b : Bool) (ks : List Seg) → unless 7 b (found ks) ≡ found ss → (b ≡ true) × (ks ≡ ss)
-    by_room true ks e = (refl, cc)
-    by_room false ks e = absurd (never_both e)
+-- ---- whatever a cut works out of each polygon and joins: segments, or how many crossings
 
-    by_cell : (o : Outcome (List Polygon)) → space_cell k ≡ o → (p : Outcome Plane) → place_in Normal g ≡ p
-        → cut_cell o p (gather_in tol a) ≡ found ss
-        → gather_each g tol a (map (face_alone k) (faces_as (numbered_in_space k.cell_type) k.conn)) ≡ found ss
-    by_cell (refused j) r p q e = absurd (never_both e)
-    by_cell (found ps) r (refused j) q e = absurd (never_both e)
-    by_cell (found ps) r (found f) q e =
-        let read = space_read k ps r in
-        let t = read.kind in
-        let fs = faces_of (shape_of t) k.conn in
-        let same : faces_as (numbered_in_space k.cell_type) k.conn ≡ fs
-        = ap (λ o. faces_as (typed_in_space o) k.conn) read.known in
-        let size : length (flatten fs) ≡ length (flatten ps)
-        = polygons_size 3 k.conn k.coords fs ∙ ap (λ l. length (flatten l)) (sym read.passed.are) in
-        let b = by_room (leb (6 * length (flatten ps)) a) (segments_on f tol ps) e in
-        ap (λ l. gather_each g tol a (map (face_alone k) l)) same
-        ∙ each k (whole_rows k ps r) few g tol a f q fs (threes (shape_of t) k.conn) (omega (arith, size, found_few k ps r)) read.passed.all_are_rows
-        (omega (arith, size, leb-true (6 * length (flatten ps)) a b.0))
-        ∙ ap (λ l. found (segments_on f tol l)) (sym read.passed.are) ∙ ap found b.1
+module _ {A : Type 0} (none : A) (join : A → A → A) (of : Plane → List Polygon → A) (empty : (f : Plane) → of f [] ≡ none)
+    (more : (f : Plane) (p : Polygon) (ps : List Polygon) → of f (p ∷ ps) ≡ join (of f (p ∷ [])) (of f ps)) (g : Through) (a : ℕ) where
+  abbrev work : ℕ → List Polygon → Plane → Outcome A
+  work m ps f = unless 7 (leb (6 * m) a) (found (of f ps))
+
+  abbrev cut : Cell → Outcome A
+  cut k = cut_cell (space_cell k) (place_in Normal g) work
+
+  abbrev pub cut_each : List Cell → Outcome A
+  cut_each [] = found none
+  cut_each (k ∷ ks) = and_then (cut k) (λ x. and_then (cut_each ks) (λ rest. found (join x rest)))
+
+  module _ (k : Cell) (whole : length k.coords % 3 ≡ 0) (few : length k.coords ≤ separator) (f : Plane) (placed : place_in Normal g ≡ found f)
+    where
+      one : (p : Face) → 3 ≤ length p → length p ≤ 256 → T (are_rows k.conn (length k.coords / 3) p) → 6 * length p ≤ a
+          → cut (face_alone k p) ≡ found (of f (map (corner 3 k.conn k.coords) p ∷ []))
+      unfolding flatten
+      one p three most are room =
+          let q = map (corner 3 k.conn k.coords) p in
+          let n : length (q ++ []) ≡ length p = ap length (append-nil q) ∙ length-map p (corner 3 k.conn k.coords) in
+          ap (λ c. cut_cell c (place_in Normal g) work) (face_read k whole few p three most are)
+          ∙ ap (λ y. cut_cell (found (q ∷ [])) y work) placed
+          ∙ ap (λ b. unless 7 b (found (of f (q ∷ [])))) (le-leb (6 * length (q ++ [])) a (omega (arith, n)))
+
+      each : (fs : List Face) → All (λ p. 3 ≤ length p) fs → length (flatten fs) ≤ 256
+          → T (are_rows k.conn (length k.coords / 3) (flatten fs)) → 6 * length (flatten fs) ≤ a
+          → cut_each (map (face_alone k) fs) ≡ found (of f (polygons 3 k.conn k.coords fs))
+      unfolding flatten
+      each [] h most are room = ap found (sym (empty f))
+      each (p ∷ fs) h most are room =
+          let n = length-append p (flatten fs) in
+          let r = rows_append k.conn (length k.coords / 3) p (flatten fs) are in
+          let q = map (corner 3 k.conn k.coords) p in
+          ap (λ o. and_then o (λ x. and_then (cut_each (map (face_alone k) fs)) (λ rest. found (join x rest))))
+          (one p h.0 (omega (arith, n)) r.0 (omega (arith, n)))
+          ∙ ap (λ o. and_then o (λ rest. found (join (of f (q ∷ [])) rest))) (each fs h.1 (omega (arith, n)) r.1 (omega (arith, n)))
+          ∙ ap found (sym (more f q (polygons 3 k.conn k.coords fs)))
+
+  pub by_faces : (k : Cell) (x : A) → length k.coords ≤ separator → cut k ≡ found x
+      → cut_each (map (face_alone k) (faces_as (numbered_in_space k.cell_type) k.conn)) ≡ found x
+  by_faces k x few e = by_cell (space_cell k) refl (place_in Normal g) refl e
+    where
+      by_room : (b : Bool) (y : A) → unless 7 b (found y) ≡ found x → (b ≡ true) × (y ≡ x)
+      by_room true y e = (refl, cc)
+      by_room false y e = absurd (never_both e)
+
+      by_cell : (o : Outcome (List Polygon)) → space_cell k ≡ o → (p : Outcome Plane) → place_in Normal g ≡ p → cut_cell o p work ≡ found x
+          → cut_each (map (face_alone k) (faces_as (numbered_in_space k.cell_type) k.conn)) ≡ found x
+      by_cell (refused j) r p q e = absurd (never_both e)
+      by_cell (found ps) r (refused j) q e = absurd (never_both e)
+      by_cell (found ps) r (found f) q e =
+          let read = space_read k ps r in
+          let t = read.kind in
+          let fs = faces_of (shape_of t) k.conn in
+          let same : faces_as (numbered_in_space k.cell_type) k.conn ≡ fs
+          = ap (λ o. faces_as (typed_in_space o) k.conn) read.known in
+          let size : length (flatten fs) ≡ length (flatten ps)
+          = polygons_size 3 k.conn k.coords fs ∙ ap (λ l. length (flatten l)) (sym read.passed.are) in
+          let b = by_room (leb (6 * length (flatten ps)) a) (of f ps) e in
+          ap (λ l. cut_each (map (face_alone k) l)) same
+          ∙ each k (whole_rows k ps r) few f q fs (threes (shape_of t) k.conn) (omega (arith, size, found_few k ps r)) read.passed.all_are_rows
+          (omega (arith, size, leb-true (6 * length (flatten ps)) a b.0))
+          ∙ ap (λ l. found (of f l)) (sym read.passed.are) ∙ ap found b.1
+
+-- ---- the segments, and how many crossings lie in the middle by default
+
+pub face_by_face : FaceByFace
+face_by_face k g tol a ss few e =
+    same (map (face_alone k) (faces_as (numbered_in_space k.cell_type) k.conn)) ∙ by_faces [] joined (λ f. segments_on f tol) (λ f. refl) more g a k ss few e
+  where
+    joined : List Seg → List Seg → List Seg
+    joined xs ys = xs ++ ys
+
+    more : (f : Plane) (p : Polygon) (ps : List Polygon) → segments_on f tol (p ∷ ps) ≡ joined (segments_on f tol (p ∷ [])) (segments_on f tol ps)
+    more f p ps = ap (λ l. l ++ segments_on f tol ps) (sym (append-nil (face_segments (cut_by f tol) f p)))
+
+    same : (ks : List Cell) → gather_each g tol a ks ≡ cut_each [] joined (λ f. segments_on f tol) (λ f. refl) more g a ks
+    same [] = refl
+    same (k ∷ ks) = ap (λ o. and_then (gather_cut k g tol a) (λ ss. and_then o (λ rest. found (ss ++ rest)))) (same ks)
+
+pub defaulted_face_by_face : DefaultedFaceByFace
+defaulted_face_by_face k g tol a n few e =
+    same (map (face_alone k) (faces_as (numbered_in_space k.cell_type) k.conn)) ∙ by_faces 0 added (λ f. defaulted_on f tol) (λ f. refl) more g a k n few e
+  where
+    added : ℕ → ℕ → ℕ
+    added m n = m + n
+
+    more : (f : Plane) (p : Polygon) (ps : List Polygon) → defaulted_on f tol (p ∷ ps) ≡ added (defaulted_on f tol (p ∷ [])) (defaulted_on f tol ps)
+    more f p ps = omega (arith, sum_by-cons (defaulted (cut_by f tol)) p ps)
+
+    same : (ks : List Cell) → count_each g tol a ks ≡ cut_each 0 added (λ f. defaulted_on f tol) (λ f. refl) more g a ks
+    same [] = refl
+    same (k ∷ ks) = ap (λ o. and_then (gather_defaulted k g tol a) (λ m. and_then o (λ rest. found (m + rest)))) (same ks)

@@ -1,15 +1,17 @@
 -- The crossings by default of gathering, beside Gather.antt: those of the plane cut. Definitions and statements only; the theorems are in
--- proofs/Defaulted.antt.
-use Rattle.std.specs.Prelude.{◌≡◌, List, ℕ, ◌*◌, ◌/◌, ◌≤◌, leb, Float}
+-- proofs/Defaulted.antt and proofs/Alone.antt.
+use Rattle.std.specs.Prelude.{◌≡◌, List, [], ◌∷◌, map, ℕ, ◌+◌, ◌*◌, ◌/◌, ◌≤◌, leb, length, Float}
 use Rattle.rows.specs.Outcome.{Outcome, found, and_then, unless}
 use Rattle.vector.specs.declared.Plane.{Plane}
-use Rattle.cell.specs.Read.{Polygon, Cell, corners_of, space_cell}
-use Rattle.cell.specs.Claims.{SameInSpace}
+use Rattle.cell.specs.Faces.{separator}
+use Rattle.cell.specs.Read.{Polygon, Cell, corners_of, numbered_in_space, space_cell}
+use Rattle.cell.specs.Claims.{SameInSpace, faces_as}
 use Rattle.stitch.specs.Entry.{Lengths, room}
 use Rattle.cuts.specs.Cuts.{Through, cut_cell, place_in}
 use Rattle.cuts.specs.Defaulted.{defaulted_on, told_count}
 use Rattle.cuts.specs.declared.Way.TheVariants.{Normal}
 use Rattle.plane_cut.specs.Defaulted.{plane_defaulted}
+use Rattle.gather.specs.Gather.{face_alone}
 
 -- 7: as for the segments
 abbrev pub defaulted_in : Float → ℕ → ℕ → List Polygon → Plane → Outcome ℕ
@@ -36,3 +38,14 @@ abbrev pub AlikeDefaulted : Type 0
 AlikeDefaulted =
     (k k' : Cell) (ps ps' : List Polygon) → space_cell k ≡ found ps → space_cell k' ≡ found ps' → SameInSpace k k'
     → (g : Through) (tol : Float) (a : ℕ) → gather_defaulted k g tol a ≡ gather_defaulted k' g tol a
+
+-- those of some cells, added up
+abbrev pub count_each : Through → Float → ℕ → List Cell → Outcome ℕ
+count_each g tol a [] = found 0
+count_each g tol a (k ∷ ks) = and_then (gather_defaulted k g tol a) (λ n. and_then (count_each g tol a ks) (λ rest. found (n + rest)))
+
+-- A cell has as many as its faces, each handed over alone in a buffer of the same length, together.
+abbrev pub DefaultedFaceByFace : Type 0
+DefaultedFaceByFace =
+    (k : Cell) (g : Through) (tol : Float) (a n : ℕ) → length k.coords ≤ separator → gather_defaulted k g tol a ≡ found n
+    → count_each g tol a (map (face_alone k) (faces_as (numbered_in_space k.cell_type) k.conn)) ≡ found n
