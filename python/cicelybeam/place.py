@@ -1,8 +1,8 @@
 """Where the cut is: the rules' unit vectors, planes and distances, by their operations in their order.
 
 The distances decide which cells are left out before any call. By theorem `left_out` (crates/clip/specs/Clear.antt) a
-face has no segment if its corners are all above tol or all below -tol, and tol is not negative. The theorem speaks
-of the rule's own rounded distances. So they are worked out here by exactly its operations: each is one numpy
+face has no segment if its corners are all above tol or all below -tol, and tol is not negative; by `none_left_out`
+(crates/clip/specs/Defaulted.antt) it has no crossing either. The theorems speak of the rule's own rounded distances. So they are worked out here by exactly its operations: each is one numpy
 operation on 64-bit floats, which IEEE 754 fixes, and numpy does not fuse them. No margin is needed then, and the
 same distances tell which cells the plane passes through.
 """

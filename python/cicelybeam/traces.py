@@ -2,7 +2,7 @@
 
 Each face is handed over alone. By theorem `FaceByFace` (crates/gather/specs/Gather.antt) what its faces have, one after the
 other, is what the whole cell has. Faces and cells with all corners above the tolerance, or all below its negative, are left out:
-by theorem `left_out` (crates/clip/specs/Clear.antt) they have no segment, and with all corners on one side no crossing.
+by theorem `left_out` (crates/clip/specs/Clear.antt) they have no segment, and by `none_left_out` (crates/clip/specs/Defaulted.antt) no crossing.
 """
 from __future__ import annotations
 
