@@ -1,4 +1,4 @@
-//! What the Rust gives for the fifteen cases that docs/RULES.md works by hand.
+//! What the Rust gives for the sixteen cases that docs/RULES.md works by hand.
 
 use oracle::counts::{counts, listed};
 use oracle::*;
@@ -26,6 +26,7 @@ fn main() {
     odd_normals();
     limits();
     gathered();
+    crossings_by_default();
 }
 
 fn faces_of_phed() {
@@ -286,6 +287,37 @@ fn ring(section: &Section, which: usize) -> Vec<[f64; 2]> {
     let least = (0..points.len()).min_by(|&a, &b| points[a].partial_cmp(&points[b]).unwrap());
     points.rotate_left(least.unwrap());
     points
+}
+
+fn crossings_by_default() {
+    heading(
+        "16. * Triangle (0,a) (1,a) (2,b) on the line y = 0: crossings in the middle by default.",
+    );
+    let (tiny, least) = (f64::from_bits(1), f64::MIN_POSITIVE);
+    let cases = [
+        ("2^-1074, -2^-1074", tiny, -tiny, 0.0, 2),
+        ("2^-1023, -2^-1023", least / 2.0, -least / 2.0, 0.0, 2),
+        ("2^-1022, -2^-1074", least, -tiny, 0.0, 0),
+        ("1, NaN", 1.0, f64::NAN, 0.0, 2),
+        (
+            "infinity, -infinity",
+            f64::INFINITY,
+            f64::NEG_INFINITY,
+            0.0,
+            0,
+        ),
+        ("1, NaN, tolerance -1", 1.0, f64::NAN, -1.0, 2),
+        ("2^-1074, -2^-1074, tolerance NaN", tiny, -tiny, f64::NAN, 0),
+    ];
+    let mut agrees = true;
+    for (name, a, b, tol, right) in cases {
+        let polygon = [[0.0, a], [1.0, a], [2.0, b]];
+        let cut = || counted::reach::plane_section_segments(&polygon, &[0.0; 2], &[0.0, 1.0], tol);
+        let (_, found) = defaulted(cut);
+        println!("   {name}: {found}");
+        agrees &= found == right;
+    }
+    verdict(agrees);
 }
 
 fn heading(text: &str) {
