@@ -2,16 +2,13 @@
 -- Assumes nothing.
 use mathlib.Core.Path.{◌∙◌, ap, sym}
 use native.Mathlib.Omega.{arith}
-use borrow.Author.Tests.{le-leb}
-use lib.ListN.{length}
-use Rattle.rows.proofs.Outcomes.{test_passed}
 use Rattle.rows.specs.Refusals.{outcome_of}
 use Rattle.cell.specs.Read.{cell_of, polygons_of, space_cell}
-use Rattle.cuts.specs.Code.{through_of}
-use Rattle.cuts.proofs.Answers.{count_gave, line_gave}
-use Rattle.cuts.proofs.Cutting.{at_work, corners_few}
-use Rattle.line_cut.specs.Defaulted.{defaulted_in, line_defaulted}
-use Rattle.line_cut.specs.LineCut.{line_cut, line_in}
+use Rattle.cuts.specs.Cuts.{section_of}
+use Rattle.cuts.proofs.Answers.{line_answered}
+use Rattle.cuts.proofs.Cutting.{corners_few}
+use Rattle.line_cut.specs.Defaulted.{defaulted_on_line}
+use Rattle.line_cut.specs.LineCut.{line_of_section}
 use Rattle.line_cut.proofs.Sections.{line_fits}
 use borrow.Author.Rules.{rules}
 use Rattle.line_cut.proofs.slice_line_3d.Goals as goal
@@ -23,18 +20,8 @@ pub returns : goal.returns
 returns c =
     let g = c.args in
     let k = c.in_ok-accepted in
-    let room = length g.numbers.now in
-    let a = k.accepted.accepted in
-    let m = k.accepted.count in
-    let on = sym c.place.ensures ∙ ap outcome_of c.in_ok-plane.was in
-    let long = le-leb _ _ c.if-accepted-numbers.false in
-    let found = c.line_cell.ensures in (
-      line_gave {w = 3} c.line_cell.result
-          (ap (λ j. line_cut j (through_of g.through.now) g.tol room) (sym k.ensures)
-          ∙ at_work a m (line_in g.tol room) on (test_passed 7 _ _ long)) found.segments (search rules)
-          (line_fits c.in_ok-plane.plane g.tol (polygons_of (space_cell (cell_of k.accepted.cell)))
-          (omega (arith, m, c.if-accepted-numbers.false)) found.segments),
-      count_gave
-          (ap (λ j. line_defaulted j (through_of g.through.now) g.tol room) (sym k.ensures)
-          ∙ at_work a m (defaulted_in g.tol room) on (test_passed 7 _ _ long)) found.counted,
-    )
+    let room = c.if-accepted-numbers.false in
+    let found = c.line_cell.ensures in
+    line_answered 3 14 space_cell (λ ps f. line_of_section f g.tol (section_of f g.tol ps)) (λ ps f. defaulted_on_line f g.tol ps) c.line_cell.result
+    k.ensures k.accepted.accepted k.accepted.count (sym c.place.ensures ∙ ap outcome_of c.in_ok-plane.was) room found.segments found.counted (search rules)
+    (line_fits c.in_ok-plane.plane g.tol (polygons_of (space_cell (cell_of k.accepted.cell))) (omega (arith, k.accepted.count, room)) found.segments)

@@ -2,16 +2,11 @@
 -- Assumes nothing.
 use mathlib.Core.Path.{◌∙◌, ap, sym}
 use native.Mathlib.Omega.{arith}
-use borrow.Author.Tests.{le-leb}
-use lib.ListN.{length}
-use Rattle.rows.proofs.Outcomes.{test_passed}
-use Rattle.cell.specs.Read.{cell_of}
+use Rattle.cell.specs.Read.{cell_of, plane_cell}
 use Rattle.clip.specs.View.{cut_of}
-use Rattle.cuts.specs.Code.{through_of}
-use Rattle.cuts.proofs.Answers.{count_gave, line_gave}
-use Rattle.cuts.proofs.Cutting.{at_work}
-use Rattle.plane_cell.specs.PlaneCell.{plane_cell_cut, segments_in}
-use Rattle.plane_cell.specs.Defaulted.{defaulted_in, plane_cell_defaulted}
+use Rattle.cuts.proofs.Answers.{line_answered}
+use Rattle.plane_cell.specs.PlaneCell.{polygon_segments}
+use Rattle.plane_cell.specs.Defaulted.{polygon_defaulted}
 use Rattle.plane_cell.specs.Code.{cutting}
 use Rattle.plane_cell.proofs.Polygons.{few_corners, segments_fit}
 use borrow.Author.Rules.{rules}
@@ -26,17 +21,8 @@ pub returns : goal.returns
 returns c =
     let g = c.args in
     let k = c.in_ok-accepted in
-    let room = length g.numbers.now in
-    let a = k.accepted.accepted in
-    let m = k.accepted.count in
-    let on = sym c.place.ensures ∙ ap cutting c.in_ok-cut.was in
-    let long = le-leb _ _ c.if-accepted-numbers.false in
-    let found = c.line_cell.ensures in (
-      line_gave {w = 2} c.line_cell.result
-          (ap (λ j. plane_cell_cut g.way j (through_of g.through.now) g.tol room) (sym k.ensures)
-          ∙ at_work a m (segments_in room) on (test_passed 7 _ _ long)) found.segments (search rules)
-          (segments_fit (cell_of k.accepted.cell) a (cut_of c.in_ok-cut.cut) (omega (arith, m, c.if-accepted-numbers.false)) found.segments),
-      count_gave
-          (ap (λ j. plane_cell_defaulted g.way j (through_of g.through.now) g.tol room) (sym k.ensures)
-          ∙ at_work a m (defaulted_in room) on (test_passed 7 _ _ long)) found.counted,
-    )
+    let room = c.if-accepted-numbers.false in
+    let found = c.line_cell.ensures in
+    line_answered 2 6 plane_cell (λ ps l. polygon_segments l ps) (λ ps l. polygon_defaulted l ps) c.line_cell.result
+    k.ensures k.accepted.accepted k.accepted.count (sym c.place.ensures ∙ ap cutting c.in_ok-cut.was) room found.segments found.counted (search rules)
+    (segments_fit (cell_of k.accepted.cell) k.accepted.accepted (cut_of c.in_ok-cut.cut) (omega (arith, k.accepted.count, room)) found.segments)
