@@ -52,7 +52,7 @@ pub const BY_DEFAULT: [&str; 10] = [
 const LEAST: f64 = f64::from_bits(1);
 const LEAST_NORMAL: f64 = f64::MIN_POSITIVE;
 
-/// A case, its number in docs/RULES.md, and its answer there.
+/// A case, the number of its group (up to 15 the case's in docs/RULES.md), and its answer by the rules.
 #[derive(Clone)]
 pub struct Worked {
     pub number: usize,

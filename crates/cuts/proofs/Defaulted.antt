@@ -10,7 +10,7 @@ use Rattle.vector.specs.declared.Plane.{Plane}
 use Rattle.cell.specs.Read.{Polygon, Cell, corners_of, space_cell}
 use Rattle.clip.specs.Cell.{cut_by}
 use Rattle.clip.proofs.Defaulted.{cell_defaulted_bound}
-use Rattle.cuts.specs.Defaulted.{defaulted_on, told_count}
+use Rattle.cuts.specs.Defaulted.{defaulted_by, told_count}
 use Rattle.cuts.proofs.Sizes.{corners_in_all, found_few}
 
 -- what is told: 0, or what was found
@@ -21,7 +21,7 @@ told_has P (found n) z h = h
 abbrev pub Few : Cell → ℕ → Type 0
 Few k n = (n ≤ corners_of (space_cell k)) × (n ≤ 256)
 
-pub defaulted_few : (k : Cell) (ps : List Polygon) → space_cell k ≡ found ps → (f : Plane) (tol : Float) → Few k (defaulted_on f tol ps)
+pub defaulted_few : (k : Cell) (ps : List Polygon) → space_cell k ≡ found ps → (f : Plane) (tol : Float) → Few k (defaulted_by f tol ps)
 defaulted_few k ps r f tol =
     let m : length (flatten ps) ≡ corners_of (space_cell k) = ap corners_of (sym r) in
     let b = cell_defaulted_bound (cut_by f tol) ps in

@@ -9,7 +9,7 @@ use Rattle.walk.specs.Walk.{All}
 use Rattle.stitch.specs.Code.{AnswerGiven}
 use Rattle.stitch.specs.Entry.{Buffers}
 use Rattle.cuts.specs.Cuts.{Through, section_of, through}
-use Rattle.cuts.specs.Defaulted.{defaulted_on}
+use Rattle.cuts.specs.Defaulted.{defaulted_by}
 use Rattle.cuts.specs.declared.CellSection.{CellSection}
 use Rattle.cuts.specs.declared.Through as code
 use Rattle.cuts.specs.declared.Size.{Size}
@@ -35,7 +35,7 @@ pub record Roomy (m : ℕ) (numbers : List Float) (nodes ends : List ℕ) : Type
 pub record SectionGiven (f : Plane) (tol : Float) (ps : List Polygon) (r : CellSection) (b b' : Buffers) : Type 0 where
   pub stitched
       : AnswerGiven (section_of f tol ps) r.stitched b.numbers b'.numbers b.nodes b'.nodes b.ends b'.ends
-  pub counted : r.defaulted ≡ defaulted_on f tol ps
+  pub counted : r.defaulted ≡ defaulted_by f tol ps
 
 -- ---- the sizes of scratch
 

@@ -12,8 +12,8 @@ use Rattle.stitch.specs.declared.Stitched.{Stitched}
 use Rattle.cuts.specs.declared.CellSection.{CellSection}
 
 -- how many polygons have on a plane
-abbrev pub defaulted_on : Plane → Float → List Polygon → ℕ
-defaulted_on f tol ps = cell_defaulted (cut_by f tol) ps
+abbrev pub defaulted_by : Plane → Float → List Polygon → ℕ
+defaulted_by f tol ps = cell_defaulted (cut_by f tol) ps
 
 -- what a cut tells of them: how many, and 0 with a refusal
 abbrev pub told_count : Outcome ℕ → ℕ

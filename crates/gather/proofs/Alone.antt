@@ -28,7 +28,7 @@ use Rattle.clip.specs.Cell.{cut_by, face_segments}
 use Rattle.clip.specs.Defaulted.{defaulted}
 use Rattle.walk.specs.Walk.{All}
 use Rattle.cuts.specs.Cuts.{Through, cut_cell, place_in, segments_on}
-use Rattle.cuts.specs.Defaulted.{defaulted_on}
+use Rattle.cuts.specs.Defaulted.{defaulted_by}
 use Rattle.cuts.specs.declared.Way.TheVariants.{Normal}
 use Rattle.cuts.proofs.Sizes.{found_few}
 use Rattle.gather.specs.Gather.{FaceByFace, face_alone, gather_cut, gather_each}
@@ -239,14 +239,14 @@ face_by_face k g tol a ss few e =
 
 pub defaulted_face_by_face : DefaultedFaceByFace
 defaulted_face_by_face k g tol a n few e =
-    same (map (face_alone k) (faces_as (numbered_in_space k.cell_type) k.conn)) ∙ by_faces 0 added (λ f. defaulted_on f tol) (λ f. refl) more g a k n few e
+    same (map (face_alone k) (faces_as (numbered_in_space k.cell_type) k.conn)) ∙ by_faces 0 added (λ f. defaulted_by f tol) (λ f. refl) more g a k n few e
   where
     added : ℕ → ℕ → ℕ
     added m n = m + n
 
-    more : (f : Plane) (p : Polygon) (ps : List Polygon) → defaulted_on f tol (p ∷ ps) ≡ added (defaulted_on f tol (p ∷ [])) (defaulted_on f tol ps)
+    more : (f : Plane) (p : Polygon) (ps : List Polygon) → defaulted_by f tol (p ∷ ps) ≡ added (defaulted_by f tol (p ∷ [])) (defaulted_by f tol ps)
     more f p ps = omega (arith, sum_by-cons (defaulted (cut_by f tol)) p ps)
 
-    same : (ks : List Cell) → count_each g tol a ks ≡ cut_each 0 added (λ f. defaulted_on f tol) (λ f. refl) more g a ks
+    same : (ks : List Cell) → count_each g tol a ks ≡ cut_each 0 added (λ f. defaulted_by f tol) (λ f. refl) more g a ks
     same [] = refl
     same (k ∷ ks) = ap (λ o. and_then (gather_defaulted k g tol a) (λ m. and_then o (λ rest. found (m + rest)))) (same ks)

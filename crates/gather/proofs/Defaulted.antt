@@ -14,7 +14,7 @@ use Rattle.cell.specs.Read.{Polygon, corners_of, space_cell}
 use Rattle.stitch.specs.Entry.{Lengths, room}
 use Rattle.cell.proofs.Alike.{alike_in_space}
 use Rattle.cuts.specs.Cuts.{cut_cell, place_in}
-use Rattle.cuts.specs.Defaulted.{defaulted_on}
+use Rattle.cuts.specs.Defaulted.{defaulted_by}
 use Rattle.cuts.specs.declared.Way.TheVariants.{Normal}
 use Rattle.cuts.proofs.Cutting.{space_cut_sound}
 use Rattle.cuts.proofs.Defaulted.{Few, defaulted_few, told_has}
@@ -27,7 +27,7 @@ gather_defaulted_bound k g tol a =
     told_has (Few k) (gather_defaulted k g tol a) (omega arith, omega arith)
     (space_cut_sound (Few k) k Normal g (defaulted_in tol a)
     (λ ps r f e.
-    sound_unless 1 7 (Few k) 7 (leb (6 * length (flatten ps)) a) (found (defaulted_on f tol ps)) (omega arith) (omega arith)
+    sound_unless 1 7 (Few k) 7 (leb (6 * length (flatten ps)) a) (found (defaulted_by f tol ps)) (omega arith) (omega arith)
     (λ _. defaulted_few k ps r f tol)))
 
 -- by how far the cut came
@@ -38,7 +38,7 @@ by_cell tol l (refused j) p = refl
 by_cell tol l (found ps) (refused j) = refl
 by_cell tol l (found ps) (found f) =
     let m = length (flatten ps) in
-    let n = defaulted_on f tol ps in
+    let n = defaulted_by f tol ps in
     steps (leb (6 * m) l.numbers) (leb (3 * m / 2) l.nodes && leb (m / 2) l.ends) n n (λ n. found n) (λ e. refl)
 
 pub plane_defaulted_by_gathering : PlaneDefaultedByGathering

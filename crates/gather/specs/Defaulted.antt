@@ -8,14 +8,14 @@ use Rattle.cell.specs.Read.{Polygon, Cell, corners_of, numbered_in_space, space_
 use Rattle.cell.specs.Claims.{SameInSpace, faces_as}
 use Rattle.stitch.specs.Entry.{Lengths, room}
 use Rattle.cuts.specs.Cuts.{Through, cut_cell, place_in}
-use Rattle.cuts.specs.Defaulted.{defaulted_on, told_count}
+use Rattle.cuts.specs.Defaulted.{defaulted_by, told_count}
 use Rattle.cuts.specs.declared.Way.TheVariants.{Normal}
 use Rattle.plane_cut.specs.Defaulted.{plane_defaulted}
 use Rattle.gather.specs.Gather.{face_alone}
 
 -- 7: as for the segments
 abbrev pub defaulted_in : Float → ℕ → ℕ → List Polygon → Plane → Outcome ℕ
-defaulted_in tol a m ps f = unless 7 (leb (6 * m) a) (found (defaulted_on f tol ps))
+defaulted_in tol a m ps f = unless 7 (leb (6 * m) a) (found (defaulted_by f tol ps))
 
 abbrev pub gather_defaulted : Cell → Through → Float → ℕ → Outcome ℕ
 gather_defaulted k g tol a = cut_cell (space_cell k) (place_in Normal g) (defaulted_in tol a)

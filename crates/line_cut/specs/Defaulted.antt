@@ -10,7 +10,7 @@ use Rattle.clip.specs.Cell.{corners}
 use Rattle.clip.specs.Defaulted.{defaulted}
 use Rattle.walk.specs.Walk.{point_at}
 use Rattle.cuts.specs.Cuts.{Through, cut_cell, place_in, section_of}
-use Rattle.cuts.specs.Defaulted.{defaulted_on, told_count}
+use Rattle.cuts.specs.Defaulted.{defaulted_by, told_count}
 use Rattle.cuts.specs.declared.Way.TheVariants.{Direction}
 use Rattle.line_cut.specs.LineCut.{axis}
 
@@ -24,7 +24,7 @@ loops_defaulted tol ps ls = sum_by (loop_defaulted tol ps) ls
 
 -- of polygons: on the plane, and of the loops of their section on the line
 abbrev pub defaulted_on_line : Plane → Float → List Polygon → ℕ
-defaulted_on_line f tol ps = let s = section_of f tol ps in defaulted_on f tol ps + loops_defaulted tol s.points s.loops
+defaulted_on_line f tol ps = let s = section_of f tol ps in defaulted_by f tol ps + loops_defaulted tol s.points s.loops
 
 -- 7: as for the segments
 abbrev pub defaulted_in : Float → ℕ → ℕ → List Polygon → Plane → Outcome ℕ

@@ -112,8 +112,8 @@ fn line_within<
     }
 }
 
-// Cuts each loop by y = 0 and writes the segments on the line. Gives how many there are, and how many crossings were defaulted. Points and nodes stand one by one: here they are
-// those of a section, below the nodes are of one loop.
+// Cuts each loop by y = 0 and writes the segments on the line. Gives how many there are, and how many crossings were defaulted. Points and
+// nodes stand one by one: here they are those of a section, below the nodes are of one loop.
 fn cut_loops<const POLYGON: usize, const CLIPPED: usize, const FLAT: usize>(
     points: &[f64],
     nodes: &[u32],

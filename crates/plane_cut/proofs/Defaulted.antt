@@ -9,7 +9,7 @@ use Rattle.rows.proofs.Outcomes.{sound_unless}
 use Rattle.stitch.specs.Entry.{room}
 use Rattle.cell.proofs.Alike.{alike_in_space}
 use Rattle.cuts.specs.Cuts.{cut_cell, place_in}
-use Rattle.cuts.specs.Defaulted.{defaulted_on}
+use Rattle.cuts.specs.Defaulted.{defaulted_by}
 use Rattle.cuts.specs.declared.Way.TheVariants.{Normal}
 use Rattle.cuts.proofs.Cutting.{space_cut_sound}
 use Rattle.cuts.proofs.Defaulted.{Few, defaulted_few, told_has}
@@ -21,7 +21,7 @@ plane_defaulted_bound k g tol l =
     (space_cut_sound (Few k) k Normal g (defaulted_in tol l)
     (λ ps r f e.
     let m = length (flatten ps) in
-    sound_unless 1 7 (Few k) 7 (room (6 * m) (3 * m / 2) (m / 2) l) (found (defaulted_on f tol ps)) (omega arith) (omega arith)
+    sound_unless 1 7 (Few k) 7 (room (6 * m) (3 * m / 2) (m / 2) l) (found (defaulted_by f tol ps)) (omega arith) (omega arith)
     (λ _. defaulted_few k ps r f tol)))
 
 -- only the corners matter

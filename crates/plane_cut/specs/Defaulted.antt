@@ -7,12 +7,12 @@ use Rattle.cell.specs.Read.{Polygon, Cell, corners_of, space_cell}
 use Rattle.cell.specs.Claims.{SameInSpace}
 use Rattle.stitch.specs.Entry.{Lengths, room}
 use Rattle.cuts.specs.Cuts.{Through, cut_cell, place_in}
-use Rattle.cuts.specs.Defaulted.{defaulted_on, told_count}
+use Rattle.cuts.specs.Defaulted.{defaulted_by, told_count}
 use Rattle.cuts.specs.declared.Way.TheVariants.{Normal}
 
 -- 7: as for the section
 abbrev pub defaulted_in : Float → Lengths → ℕ → List Polygon → Plane → Outcome ℕ
-defaulted_in tol l m ps f = unless 7 (room (6 * m) (3 * m / 2) (m / 2) l) (found (defaulted_on f tol ps))
+defaulted_in tol l m ps f = unless 7 (room (6 * m) (3 * m / 2) (m / 2) l) (found (defaulted_by f tol ps))
 
 abbrev pub plane_defaulted : Cell → Through → Float → Lengths → Outcome ℕ
 plane_defaulted k g tol l = cut_cell (space_cell k) (place_in Normal g) (defaulted_in tol l)
