@@ -91,14 +91,14 @@ extern "C" {
 #define CICELYBEAM_STITCH_ENDS(s) ((s) / 3)
 
 /* ---- Answers
- * A polygon (a face, a plane cell, or a loop that a line cuts) of three corners or more is clipped to the side
- * above the cut where a corner of it is above tol, else to the side below where one is below -tol, else not at
- * all. An edge of it from a to b, at distances da and db that are positive on that side, has a crossing where one of them is at least
- * -tol and the other is not. The crossing lies at t = da / (da - db) of the way from a to b; and in the middle,
- * t = 0.5, by default where da - db is NaN or no more than 2^-1022 (DBL_MIN) in absolute value. `defaulted` is
- * the number of crossings that lie in the middle by default: of all that were computed, also where the point was
- * then skipped. The faces of a cell are added up, so an edge counts once for each of its faces. At most 256, and
- * at most 640 for a line in space. */
+ * A polygon (a face, a plane cell, or a loop that a line cuts) of three corners or more is clipped to the
+ * side above the cut where a corner of it is above tol, else to the side below where one is below -tol, else
+ * not at all. An edge of it from a to b, at distances da and db that are positive on that side, has a
+ * crossing where one of them is at least -tol and the other is not. The crossing lies at t = da / (da - db)
+ * of the way from a to b; and in the middle, t = 0.5, by default where da - db is NaN or no more than
+ * 2^-1022 (DBL_MIN) in absolute value. `defaulted` is the number of crossings that lie in the middle by
+ * default: of all that were computed, also where the point was then skipped. The faces of a cell are added
+ * up, so an edge counts once for each of its faces. At most 256, and at most 640 for a line in space. */
 
 /* A section: closed polygons of points in the cutting plane, and an account of every edge.
  *
