@@ -18,13 +18,15 @@ use Rattle.vector.specs.Vector.{Vector}
 use Rattle.vector.specs.declared.Plane.{Plane}
 use Rattle.vector.specs.Rows.{all_rows, row, rows, seg}
 use Rattle.vector.proofs.Rows.{rows_length}
-use Rattle.clip.specs.Clip.{Cut, edges, kept_side, signed}
+use Rattle.clip.specs.Clip.{Cut, by_side, edges, kept_side, signed}
 use Rattle.clip.specs.Clear.{Each, Higher, Lower}
 use Rattle.clip.specs.Cell.{faces_from}
 use Rattle.clip.specs.Defaulted.{cell_defaulted, defaulted, defaulted_by_side, defaulted_on, edge_defaults, side_defaults}
-use Rattle.clip.specs.Code.{Sided, next_of}
+use Rattle.clip.specs.Code.{FaceCut, Segments, Sided, next_of}
+use Rattle.clip.specs.declared.Found.{Found}
 use Rattle.clip.proofs.Ring.{edge_from, edges_end}
 use Rattle.clip.proofs.KeptSide.{counted, from_side}
+use Rattle.clip.proofs.Section.{few_corners, on_side}
 use Rattle.clip.proofs.Clipping.{PolygonClipping}
 use Rattle.clip.proofs.Defaulted.{defaulted_bound, none_left_out}
 use Rattle.clip.proofs.Faces.{Gathering, face_from, face_rows}
@@ -60,14 +62,17 @@ counting_end {w} {c} {s} {n} {ps} {i} {g} k h =
     let e : count_by (side_defaults c s) (drop i (edges (rows w n ps))) ≡ 0 = rw (edges_end w n ps h) in
     omega (arith, k.total)
 
--- ---- a polygon
+-- ---- a polygon, its segments and their count
 module _ (w : ℕ) (c : Cut) (n : ℕ) (ps : List Float) where
-  pub few_corners_none : n < 3 → 0 ≡ defaulted c (rows w n ps)
+  few_corners_none : n < 3 → 0 ≡ defaulted c (rows w n ps)
   unfolding defaulted
   few_corners_none h = rw (rows_length w n ps, lt-ltb n 3 h)
 
+  pub few_cut : n < 3 → (xs : List Float) → FaceCut w c (rows w n ps) xs (record { segments = 0; defaulted = 0 }) xs
+  few_cut h xs = record { segments = few_corners w c n ps h xs; counted = few_corners_none h }
+
   -- three corners or more: the count is that of the side; a face that is passed over has none
-  pub side_count : {g : Option Float} {qs : List Float} {k : ℕ} → 3 ≤ n → Sided c w n ps g qs → k ≡ defaulted_by_side c (rows w n ps) g
+  side_count : {g : Option Float} {qs : List Float} {k : ℕ} → 3 ≤ n → Sided c w n ps g qs → k ≡ defaulted_by_side c (rows w n ps) g
       → k ≡ defaulted c (rows w n ps)
   unfolding defaulted
   side_count {g} {qs} l h e = e ∙ sym (many ∙ from_side (defaulted_by_side c (rows w n ps)) h (λ o. sym many ∙ none o.not_negative o.beyond))
@@ -78,6 +83,11 @@ module _ (w : ℕ) (c : Cut) (n : ℕ) (ps : List Float) where
       none : le f0 c.tol ≡ true → Each (Higher c) (rows w n ps) ⊎ Each (Lower c) (rows w n ps) → defaulted c (rows w n ps) ≡ 0
       none t (inl a) = ((none_left_out c (rows w n ps)).above t a).1
       none t (inr b) = ((none_left_out c (rows w n ps)).below t b).1
+
+  pub side_cut : {g : Option Float} {qs xs zs : List Float} (r : Found) → 3 ≤ n → Sided c w n ps g qs
+      → Segments w xs (by_side c (rows w n ps) g) r.segments zs → r.defaulted ≡ defaulted_by_side c (rows w n ps) g
+      → FaceCut w c (rows w n ps) xs r zs
+  side_cut r l h s k = record { segments = on_side w c n ps l h s; counted = side_count l h k }
 
 -- ---- the loop over the faces: i of them are passed, s corners and g crossings by default
 pub record Adding (c : Cut) (w : ℕ) (es : List ℕ) (ps : List Float) (i s g : ℕ) : Type 0 where
