@@ -37,6 +37,7 @@ HATCHES = ("", "////", "....", "xxxx")  # for the second, third and fourth time 
 RED, INK, GREY, LIGHT = "#d00000", "#202020", "#303030", "#f0f0f0"
 SCALE = "viridis"  # its luminance grows from end to end
 IN_ONE = 1000  # polygons of one class in one path
+TOO_LARGE = 1e307  # coordinates beyond which matplotlib may fail: the ticks that it tries are too large for numbers
 THINNEST = 0.03  # points (1/72 inch); edges that would be thinner are left out
 WHITE = 0.4  # the part of white in fills below traces, so that a dark line is seen on the darkest
 DOT, LEAST_DOT, MOST_DOTS = 2.4, 0.8, 4000  # at the ends of traces, in points; smaller ones or more of them are left out
@@ -111,11 +112,17 @@ def figure_of(cut: PlaneCut | LineCut, look: Look) -> Figure:
         sheet = _profile(cut, look)
     try:
         sheet.arrange(look.size)
-    except ValueError as error:  # matplotlib sets what stands between dollar signs as a formula
+    except (ArithmeticError, LookupError, ValueError) as error:
+        if sheet.reach() > TOO_LARGE:
+            raise CicelybeamError(f"coordinates as large as {sheet.reach():.3g} cannot be drawn; scale the mesh") from error
+        if not isinstance(error, ValueError):
+            raise
+        # matplotlib sets what stands between dollar signs as a formula
         raise CicelybeamError(f"the title {look.title!r} cannot be set: {' '.join(str(error).split())}") from error
     return sheet.figure
 
 
+@np.errstate(all="ignore")  # numbers that overflow are told of; numpy need not say so as well
 def rendered(cut: PlaneCut | LineCut, look: Look, suffix: str) -> bytes:
     """The contents of a picture's file. The same cut gives the same ones: no dates."""
     check_by(cut.mesh, look.colour)

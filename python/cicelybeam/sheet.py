@@ -67,6 +67,11 @@ class Sheet:
                 self.low = np.fmin(self.low, np.fmin.reduce(finite, axis=0))
                 self.high = np.fmax(self.high, np.fmax.reduce(finite, axis=0))
 
+    def reach(self) -> float:
+        """The greatest distance from 0, along either axis, of what is shown."""
+        ends = np.abs([self.low, self.high])
+        return float(ends[np.isfinite(ends)].max(initial=0.0))
+
     def arrange(self, size: tuple[float, ...] | None) -> None:
         """Lays out; the size is in millimetres, width and height or the width alone."""
         low, span = self._limits()

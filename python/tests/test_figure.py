@@ -269,6 +269,28 @@ def test_looks_that_are_refused(tmp_path, look, words):
     assert not list(tmp_path.iterdir())
 
 
+HUGE = {  # cuts of meshes at this x
+    "plane": lambda x: cicelybeam.cut_plane(meshio.Mesh(np.array([[-2e300, -2, -1], [2e300, 0, 1], [0, 2, 1], [0, 0, 1]]) + [x, 0, 0],
+                                                        [("tetra", [[0, 1, 2, 3]])]), (0, 0, 0), (0, 0, 1), 0),
+    "line": lambda x: cicelybeam.cut_line(meshio.Mesh(CUBE * [1e300, 1, 1] + [x, 0, 0], [("hexahedron", [list(range(8))])]), (0, 0.5, 0.5), (1, 0, 0), 0),
+    "line in a plane": lambda x: cicelybeam.cut_line(meshio.Mesh(CUBE[:4, :2] * [1e300, 1] + [x, 0], [("quad", [[0, 1, 2, 3]])]), (0, 0.5), (1, 0), 0),
+}
+
+
+@pytest.mark.parametrize("name", HUGE)
+def test_coordinates_that_are_too_large_to_draw(tmp_path, name):
+    """The message speaks of them, and of no title; smaller ones are drawn."""
+    with warnings.catch_warnings():
+        warnings.simplefilter("error")
+        for file in ("a.svg", "a.png", "a.html"):
+            with pytest.raises(cicelybeam.CicelybeamError, match=r"^coordinates as large as 1\.6e\+308 cannot be drawn; scale the mesh$"):
+                HUGE[name](1.6e308).write(tmp_path / file) if file == "a.html" else HUGE[name](1.6e308).draw(tmp_path / file)
+        assert not list(tmp_path.iterdir())
+        HUGE[name](1e306).draw(tmp_path / "a.svg")
+        with pytest.raises(cicelybeam.CicelybeamError, match="title .* cannot be set"):
+            HUGE[name](1e290).draw(tmp_path / "b.svg", title=r"$\nosuch$")
+
+
 def test_title():
     cut = cicelybeam.cut_plane(box(1), (0, 0, 0.5), (0, 0, 1))
     assert [text.get_text() for text in figure(cut).texts] == ["1 polygon, area 1"]
