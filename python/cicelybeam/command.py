@@ -19,7 +19,7 @@ from .version import VERSION
 
 STATUS = """\
 exit status:
-  0  every cell that the cut reaches was cut, and no area is lost
+  0  of the cells that the cut reaches all were cut, no area is lost, and no crossing is guessed
   1  there is no cut or no output: the file, the cell or the plane was refused, and the message says why
   2  the command line is wrong
   3  area is lost: a piece is not drawn, or a cell that the plane passes through lacks an edge; or the area jumps
@@ -42,6 +42,11 @@ the polygons drawn, how many are flat or open and so not drawn, and the area. Be
 methods section.
 """
 
+GUESSED = """\
+  guessed   crossings that lie in the middle of their edges by default: the distances of an edge's ends from {}
+            differ by NaN or by no more than 2^-1022
+"""
+
 TERMS = """\
 terms:
   trace     a segment of the plane on a face of a cell, before its ends are welded within the tolerance
@@ -49,9 +54,9 @@ terms:
   in loops  edges of walks that close and have an area: the polygons that are drawn
   flat      edges of walks that close without an area above the squared tolerance, not drawn
   open      edges of walks that do not close, not drawn
-  guessed   crossings that lie in the middle of their edges by default: the distances of an edge's ends from the plane
-            differ by NaN or by no more than 2^-1022
-"""
+""" + GUESSED.format("the plane")
+
+LINE_TERMS = "terms:\n" + GUESSED.format("the line, or in space from\n            the plane that holds it,")
 
 LINE = """\
 Cuts the cells of a space mesh or of a plane mesh by a line, and prints how much of the line lies in them. Give three
@@ -121,7 +126,7 @@ def _parser() -> argparse.ArgumentParser:
     plane = commands.add_parser("plane", help="cut by a plane", description=PLANE, epilog=(
         "example:\n  cicelybeam plane part.msh --origin 0,0,0.5 --normal z --picture part.svg --report part.html\n\n" + TERMS + "\n" + STATUS))
     line = commands.add_parser("line", help="cut by a line", description=LINE, epilog=(
-        "example:\n  cicelybeam line part.msh --origin 0,0,0.5 --direction x --report part.csv\n\n" + STATUS))
+        "example:\n  cicelybeam line part.msh --origin 0,0,0.5 --direction x --report part.csv\n\n" + LINE_TERMS + "\n" + STATUS))
     for command, way in ((plane, "normal"), (line, "direction")):
         _add_cut(command, way)
         _add_outputs(command)

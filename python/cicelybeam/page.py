@@ -63,7 +63,7 @@ def _status(cut: PlaneCut | LineCut) -> str:
     reasons = cut.record.reasons
     if not reasons:
         what = "no area is lost" if isinstance(cut, PlaneCut) else "no piece is known to be missing"
-        return f'<p class="status">Every cell that the cut reaches was cut, and {what}.</p>'
+        return f'<p class="status">Of the cells that the cut reaches all were cut, {what}, and no crossing is guessed.</p>'
     lines = [f"Not whole: {escape(why)} (exit status {status})." for status, why in reasons]
     advice = getattr(cut.record, "advice", "")
     lines += [f"{escape(advice[0].upper() + advice[1:])}."] if advice else []

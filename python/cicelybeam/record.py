@@ -346,7 +346,7 @@ def defaulted_because(cells: list[DefaultedCell], cut: str) -> str:
 
 def mend_defaulted(count: int) -> str:
     return (f"{defaulted_in_words(count)}, as the distances of an edge's ends differ by NaN or by no more than 2^-1022: scale the mesh where "
-            "coordinates are as small as 1e-308, and mend nodes that are NaN or infinite")
+            "coordinates are as small as 1e-308 or so large that their differences are not finite, and mend nodes that are NaN or infinite")
 
 
 def plane_record(cut: PlaneCut, section: Section) -> PlaneRecord:

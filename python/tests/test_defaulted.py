@@ -287,7 +287,7 @@ WHY = "12 crossings lie in the middle by default, in 2 cells: 0, 2"
 SENTENCE = ("; 12 crossings in 2 cells lie in the middle of their edges by default, because the distances of an edge's ends from the plane differ by "
             "NaN or by no more than 2^-1022, so that their places are guesses.")
 MEND = ("12 crossings lie in the middle by default, as the distances of an edge's ends differ by NaN or by no more than 2^-1022: scale the mesh where "
-        "coordinates are as small as 1e-308, and mend nodes that are NaN or infinite")
+        "coordinates are as small as 1e-308 or so large that their differences are not finite, and mend nodes that are NaN or infinite")
 
 
 def lines_of(record) -> dict[str, str]:
@@ -309,6 +309,22 @@ def test_a_single_crossing_is_told_in_the_singular():
     assert lines_of(record)["guessed"] == "1 crossing lies in the middle by default, in 1 cell: 0"
     assert "; 1 crossing in 1 cell lies in the middle of its edge by default, because " in record.sentence()
     assert record.sentence().endswith(", so that its place is a guess.")
+
+
+def test_coordinates_whose_differences_are_not_finite():
+    """Each is finite, and they are too far apart: the warning says so, and a smaller mesh has none."""
+    points = np.array([[-0.85e308, 0, -1], [-0.85e308, 1, -1], [-0.85e308, 0, 1], [1.6e308, 0.5, 1]])
+    record = cicelybeam.cut_plane(tetra(points), (0, 0, 0), (0, 0, 1), 1e-9).record
+    assert record.defaulted == 4 and not record.not_finite
+    assert any("or so large that their differences are not finite" in warning for warning in record.warnings)
+    assert cicelybeam.cut_plane(tetra(points * [1e-300, 1, 1]), (0, 0, 0), (0, 0, 1), 1e-9).defaulted == 0
+
+
+def test_the_record_names_eight_cells_and_the_report_all():
+    cut = cicelybeam.cut_plane(tetra(*(LOW + [5 * k, 0, 0] for k in range(9))), (0, 0, 0), (0, 0, 1), 0)
+    assert lines_of(cut.record)["guessed"] == "54 crossings lie in the middle by default, in 9 cells: 0, 1, 2, 3, 4, 5, 6, 7, ..."
+    found = report.as_dict(cut)
+    assert [each["cell"] for each in found["defaulted_cells"]] == [each["cell"] for each in found["missing"]] == list(range(9))
 
 
 def test_a_record_without_any():
@@ -386,6 +402,8 @@ def test_the_page(path, tmp_path):
     assert said.count("guessed: 6 crossings lie in the middle by default") == 2 and "is that of the rules of the port" in said
     cicelybeam.cut_plane(box(1), (0, 0, 0.5), (0, 0, 1)).write(tmp_path / "b.html")
     assert "is that of the rules of the port" not in words((tmp_path / "b.html").read_text())
+    cicelybeam.cut_line(box(1), (0, 0.5, 0.5), (1, 0, 0)).write(tmp_path / "c.html")
+    assert "no piece is known to be missing, and no crossing is guessed." in words((tmp_path / "c.html").read_text())
 
 
 def test_the_picture():
@@ -440,8 +458,11 @@ def test_marks_of_a_profile_stand_at_their_cells():
     assert marks["D"] == ([pytest.approx(cut.segments[0, :, 0].mean())], [0.0]) and marks["x"] == ([cut.mesh.middle(1)[0]], [1.0])
 
 
-def test_help_names_it(capsys):
+@pytest.mark.parametrize("command,cut", [("plane", "the plane"), ("line", "the line, or in space from the plane that holds it,")])
+def test_help_names_it(command, cut, capsys):
     with pytest.raises(SystemExit):
-        run("plane", "--help")
+        run(command, "--help")
     said = capsys.readouterr().out
-    assert "\n  guessed   " in said and "or a crossing is guessed" in said
+    assert "\n  guessed   crossings that lie in the middle of their edges by default: " in said and "or a crossing is guessed" in said
+    assert f" of an edge's ends from {cut} differ by NaN or by no more than 2^-1022 " in " ".join(said.split())
+    assert "no area is lost, and no crossing is guessed\n" in said

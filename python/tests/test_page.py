@@ -134,7 +134,7 @@ def test_touched_cells_are_listed_apart(tmp_path):
     cut.write(tmp_path / "a.html")
     text = (tmp_path / "a.html").read_text()
     said = words(text)
-    assert "no area is lost." in said and said.count("touched: ") == cut.record.touching_cells > 0
+    assert "Of the cells that the cut reaches all were cut, no area is lost, and no crossing is guessed." in said and said.count("touched: ") == cut.record.touching_cells > 0
     assert "not known: the mesh was not read from a file" in said and "cicelybeam.cut_plane(" in said
 
 
