@@ -38,6 +38,17 @@ def _folded(fold: np.ufunc, bits: np.ndarray) -> np.ndarray:
     return found
 
 
+@np.errstate(all="ignore")
+def mean(points: np.ndarray) -> np.ndarray:
+    """The mean of rows of numbers, also where their sum is too large for a number.
+
+    >>> mean(np.array([[1.0, 1.5e308], [2.0, 1.7e308]])).tolist()
+    [1.5, 1.6e+308]
+    """
+    found = points.mean(axis=0)
+    return found if np.isfinite(found).all() else (points / len(points)).sum(axis=0)
+
+
 @dataclass
 class Faces:
     """Faces of cells of one block, cell after cell and in their order."""
@@ -250,7 +261,7 @@ class Mesh:
         """The mean of the corners of a cell that is cut; of those that are finite, where any is."""
         corners = self.points[self.corners(cell)]
         finite = np.isfinite(corners).all(axis=1)
-        return (corners[finite] if finite.any() else corners).mean(axis=0)
+        return mean(corners[finite] if finite.any() else corners)
 
     def group_of(self, cells: np.ndarray) -> np.ndarray | None:
         """The number of the group of each of these cells, or None where the file has no groups; `groups` has the names."""

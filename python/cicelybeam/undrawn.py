@@ -8,8 +8,9 @@ import numpy as np
 
 from . import place
 from .line import LineCut
+from .mesh import mean
 from .plane import PlaneCut
-from .record import defaulted_in_words
+from .record import DefaultedCell, defaulted_in_words
 
 Pair = tuple[int, int]
 Point = place.Vector
@@ -46,29 +47,32 @@ def _of_plane(cut: PlaneCut) -> list[Finding]:
     if record.jump_area:
         found += [_plain(cut, cell, "the area jumps: a face that is not flat has a corner in the plane") for cell in record.jump_cells]
     found += [_plain(cut, cell, "a corner coordinate is not finite") for cell in record.not_finite]
-    found += _defaulted(cut) + not_cut(cut)
+    found += _defaulted(cut, record.defaulted_cells) + not_cut(cut)
     return found + [Finding(u.cell, u.type, f"touched: {u.what}", 0.0, _middle(u.points)) for u in record.undrawn if u.touching]
 
 
 def _of_line(cut: LineCut) -> list[Finding]:
     record = cut.record
-    found = [_plain(cut, cell, "its section is not whole") for cell in record.undrawn if cell not in set(record.touching)]
+    touching = set(record.touching)
+    found = [_plain(cut, cell, "its section is not whole") for cell in record.undrawn if cell not in touching]
     found += [_plain(cut, cell, "passed through, and there is no segment") for cell in record.without_segment]
-    return found + _defaulted(cut)
+    return found + _defaulted(cut, record.defaulted_cells)
 
 
-def _defaulted(cut: PlaneCut | LineCut) -> list[Finding]:
+def _defaulted(cut: PlaneCut | LineCut, guessed: list[DefaultedCell]) -> list[Finding]:
     """Cells with crossings in the middle by default, near what the cut gives for them; where that is nothing or not finite, near their corners."""
-    if not cut.record.defaulted_cells:
+    if not guessed:
         return []
     if isinstance(cut, PlaneCut):
         points, owner = cut.in_space(), np.repeat(cut.cells, np.diff(cut.cell_points, axis=1).ravel())
     else:
         points, owner = cut.segments.reshape(-1, cut.mesh.dimension), np.repeat(cut.segment_cell, 2)
+    cells = np.array([each.cell for each in guessed], dtype=np.int64)
+    first, after = (np.searchsorted(owner, cells, side).tolist() for side in ("left", "right"))  # what is given stands in the order of cells
     found = []
-    for each in cut.record.defaulted_cells:
-        given = points[: len(owner)][owner == each.cell]
-        near = given.mean(axis=0) if len(given) and np.isfinite(given).all() else cut.mesh.middle(each.cell)
+    for each, start, end in zip(guessed, first, after):
+        given = points[start:end]
+        near = mean(given) if len(given) and np.isfinite(given).all() else cut.mesh.middle(each.cell)
         found.append(Finding(each.cell, each.type, f"guessed: {defaulted_in_words(each.defaulted)}", None, near.tolist()))
     return found
 
@@ -78,7 +82,7 @@ def _plain(cut: PlaneCut | LineCut, cell: int, reason: str) -> Finding:
 
 
 def _middle(points: list[list[float]]) -> list[float]:
-    return np.mean(points, axis=0).tolist() if points else []
+    return mean(np.array(points)).tolist() if points else []
 
 
 def not_cut(cut: PlaneCut) -> list[Finding]:
@@ -91,7 +95,7 @@ def not_cut(cut: PlaneCut) -> list[Finding]:
             continue
         known = np.flatnonzero(((nodes >= 0) & (nodes < len(mesh.points))).all(axis=1))
         reached = known[np.bitwise_and.reduce(of_node[nodes[known]], axis=1) == 0]
-        found += [Finding(first + int(k), name, "cells of this type are not cut", None, mesh.points[nodes[k]].mean(axis=0).tolist())
+        found += [Finding(first + int(k), name, "cells of this type are not cut", None, mean(mesh.points[nodes[k]]).tolist())
                   for k in reached]
     return found
 

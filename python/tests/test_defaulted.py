@@ -10,7 +10,7 @@ from hypothesis import given, settings
 from hypothesis import strategies as st
 from test_calls import one_call
 from test_figure import figure, legend_of
-from test_files import parts, run
+from test_files import OPEN_BRICK, parts, run
 from test_page import parsed, words
 from test_traces import gather_call, stitch_call
 
@@ -327,6 +327,39 @@ def test_the_record_names_eight_cells_and_the_report_all():
     assert [each["cell"] for each in found["defaulted_cells"]] == [each["cell"] for each in found["missing"]] == list(range(9))
 
 
+def test_where_guessed_cells_are():
+    """Near what the cut gives for each, though others stand between them; where it gives nothing, near the corners."""
+    cells = [LOW, TETRA + [5, 0, -0.25], LOW + [10, 0, 0], spoilt(np.nan, axis=0) + [15, 0, 0], LOW + [20, 0, 0], LOW + [25, 0, 0]]
+    nodes = np.arange(24).reshape(-1, 4)
+    cut = cicelybeam.cut_plane(meshio.Mesh(np.concatenate(cells), [("tetra", nodes[:3]), ("triangle", [[0, 1, 2]]), ("tetra", nodes[3:])]),
+                               (0, 0, 0), (0, 0, 1), 0)
+    found = {each.cell: each.near for each in findings(cut) if each.reason.startswith("guessed")}
+    assert list(found) == [0, 2, 4, 5, 6] and 4 not in cut.cells
+    for cell, x in ((0, 0), (2, 10), (5, 20), (6, 25)):
+        assert found[cell] == pytest.approx([x - 2 / 3, -2 / 3, 0], abs=1e-9)
+    assert found[4] == pytest.approx([15 + 1 / 3, 1 / 3, -0.25])
+
+
+def test_a_place_near_the_largest_number():
+    """The sum of the points is too large for a number, and their mean is not; likewise of the corners, for a line without a segment."""
+    far = tetra(LOW * [1e300, 1, 1] + [1.6e308, 0, 0])
+    (found,) = findings(cicelybeam.cut_plane(far, (0, 0, 0), (0, 0, 1), 0))
+    assert found.near == pytest.approx([1.6e308, -2 / 3, 0])
+    line = cicelybeam.cut_line(tetra(low_along(1.6e308)), (0, 0, 0), (1, 0, 0), 0)
+    (found,) = findings(line)
+    assert len(line) == 0 and found.near == pytest.approx([1.6e308, 0, 0], abs=1e-9)
+
+
+def test_other_places_near_the_largest_number():
+    """Of a cell that is not whole, and of one that is not cut."""
+    points = CUBE * [1e300, 1, 1] + [1.6e308, -0.5, -0.5]
+    mesh = cicelybeam.of_meshio(meshio.Mesh(np.concatenate([points, points]), [("polyhedron8", [[np.array(face) for face in OPEN_BRICK]])]))
+    mesh.others.append(("hexahedron9", 3, 1, np.arange(8, 16)[None]))
+    mesh.other_first.append(1)
+    found = findings(cicelybeam.cut_plane(mesh, (0, 0, 0), (0, 0, 1), 0))
+    assert sorted(each.cell for each in found) == [0, 1] and np.isfinite([each.near for each in found]).all()
+
+
 def test_a_record_without_any():
     """The line says so, and nothing else speaks of it."""
     cut = cicelybeam.cut_plane(box(2), (0, 0, 0.3), (0, 0, 1))
@@ -417,10 +450,14 @@ def test_the_picture():
     assert not any("guessed" in text for text in [*legend_of(whole), whole.texts[0].get_text()])
 
 
+def low_along(x: float = 0.0, z: float = 0.0) -> np.ndarray:
+    """A tetrahedron by whose faces the line along x passes, with all crossings of the plane y = 0 guessed."""
+    return np.array([[0, -3e-310, 0], [2, 1e-310, -4], [4, 1e-310, 6], [6, 1e-310, -2]]) + [x, 0, z]
+
+
 def three_along_a_line() -> meshio.Mesh:
     """A cell whose crossings are guessed, an open brick that the line passes through, and a whole one."""
-    low = [[0, -3e-310, 0], [2, 1e-310, -4], [4, 1e-310, 6], [6, 1e-310, -2]]
-    points = np.concatenate([low, CUBE + [10, -0.5, -0.5], CUBE + [20, -0.5, -0.5]])
+    points = np.concatenate([low_along(), CUBE + [10, -0.5, -0.5], CUBE + [20, -0.5, -0.5]])
     faces = [[0, 3, 2, 1], [0, 1, 5, 4], [2, 3, 7, 6], [1, 2, 6, 5], [4, 5, 6, 7], [3, 0, 4, 7]]
     return meshio.Mesh(points, [("polyhedron4", [[np.array(f) for f in ([0, 1, 3], [1, 2, 3], [2, 0, 3], [0, 2, 1])]]),
                                 ("polyhedron8", [[k + np.array(f) for f in kept] for k, kept in ((4, faces[:4]), (12, faces))])])
@@ -442,6 +479,15 @@ def test_the_line_command(tmp_path, capsys):
     assert found["defaulted"] == 6 and found["defaulted_cells"] == [{"cell": 0, "type": "polyhedron4", "defaulted": 6}]
     assert {each["cell"]: each["reason"] for each in found["missing"]} == {
         1: "its section is not whole", 0: "guessed: 6 crossings lie in the middle by default"}
+
+
+def test_where_guessed_cells_of_a_line_are():
+    """Each near its own segment."""
+    cut = cicelybeam.cut_line(tetra(low_along(), TETRA + [10, -0.25, -0.25], low_along(20), low_along(30)), (0, 0, 0), (1, 0, 0), 0)
+    found = {each.cell: each.near for each in findings(cut)}
+    assert cut.segment_cell.tolist() == [0, 1, 2, 3] and list(found) == [0, 2, 3]
+    for cell, near in found.items():
+        assert near == cut.segments[cell].mean(axis=0).tolist() and 10 * cell < near[0] < 10 * cell + 6
 
 
 def test_a_plane_mesh_is_told_of_the_line_alone():
