@@ -27,7 +27,8 @@ class LineRecord:
 
     In space the library cuts the loops of a cell's section by a plane that holds the line, and gives no counts of its
     edges. So the same cells are cut by that plane too: a cell that the line may reach and whose section is not whole
-    is in `undrawn`, and one whose polygon has corners on both sides of the line is to have a segment.
+    is in `undrawn`, and one whose polygon has corners on both sides of the line is to have a segment. A guessed crossing
+    of a cell that the line cannot reach is counted, and is no reason for an exit status: no segment rests on it.
     """
 
     version: str
@@ -53,12 +54,18 @@ class LineRecord:
     dropped: list[str]  # what meshio says of cells that it left out while reading
     defaulted: int  # crossings that lie in the middle of their edges by default: in space of faces, and of loops where the line cuts them
     defaulted_cells: list[DefaultedCell]  # the cells with them
+    defaulted_reached: list[DefaultedCell]  # of these, those that the line may reach
     warnings: list[str] = field(default_factory=list)
 
     @property
     def all_drawn(self) -> bool:
         """Whether no piece is known to be missing."""
         return not self.undrawn and not self.without_segment
+
+    @property
+    def nothing_lost(self) -> bool:
+        """Whether the segments can be printed, as far as cells are concerned that are cut: no reason for exit status 3."""
+        return all(status != 3 for status, _ in self.reasons)
 
     @property
     def all_cut(self) -> bool:
@@ -72,8 +79,8 @@ class LineRecord:
             found.append((3, f"{number(len(self.undrawn), 'cell')} that the line may reach and whose section is not whole{some(self.undrawn)}"))
         if self.without_segment:
             found.append((3, f"{number(len(self.without_segment), 'cell')} that the line passes through, without a segment{some(self.without_segment)}"))
-        if self.defaulted:
-            found.append((3, defaulted_where(self.defaulted_cells)))
+        if self.defaulted_reached:
+            found.append((3, defaulted_where(self.defaulted_reached)))
         if any(self.not_cut_reached.values()):
             found.append((4, f"the line may meet cells of types that are not cut: {counted(self.not_cut_reached)}"))
         found += [(4, f"meshio left cells out while reading: {remark}") for remark in self.dropped]
@@ -95,15 +102,15 @@ class LineRecord:
         if self.undrawn or self.without_segment:
             start += (f"; {number(len(self.undrawn), 'cell')} that the line may reach with a section that is not whole, and "
                       f"{len(self.without_segment)} that it passes through without a segment")
-        if self.defaulted:
-            start += "; " + defaulted_because(self.defaulted_cells, "the line" if len(self.origin) == 2 else "the line or from the plane that holds it")
+        if self.defaulted_reached:
+            start += "; " + defaulted_because(self.defaulted_reached, "the line" if len(self.origin) == 2 else "the line or from the plane that holds it")
         if any(self.not_cut_reached.values()):
             start += f"; not cut: {counted(self.not_cut_reached)}"
         return start + "."
 
     def as_dict(self) -> dict:
         """The record as plain numbers, lists and words."""
-        return {**asdict(self), "all_drawn": self.all_drawn, "all_cut": self.all_cut,
+        return {**asdict(self), "all_drawn": self.all_drawn, "nothing_lost": self.nothing_lost, "all_cut": self.all_cut,
                 "reasons": [list(reason) for reason in self.reasons], "summary": self.sentence()}
 
     def __str__(self) -> str:
@@ -120,10 +127,15 @@ class LineRecord:
             ("stretches", f"{len(self.stretches)}{': ' if stretches else ''}{stretches}"),
             ("not whole", f"{number(len(self.undrawn), 'cell')} that the line may reach{some(self.undrawn)}"),
             ("no segment", f"{number(len(self.without_segment), 'cell')} passed through{some(self.without_segment)}"),
-            ("guessed", defaulted_where(self.defaulted_cells)),
+            ("guessed", self._guessed()),
             *(("WARNING", warning) for warning in self.warnings),
         ]
         return "\n".join([*(f"{name:<18}{value}" for name, value in lines), "", self.sentence()])
+
+    def _guessed(self) -> str:
+        """Of all cells; and how many are in cells that the line may reach, where those are fewer."""
+        told, reached = defaulted_where(self.defaulted_cells), sum(cell.defaulted for cell in self.defaulted_reached)
+        return told if reached == self.defaulted else f"{told} ({reached} in cells that the line may reach)"
 
 
 @dataclass(repr=False)
@@ -188,11 +200,13 @@ def cut_line(
     segments, owner, defaulted = _segments(found, kept, call, room, (near, along, tol), progress)
     if found.dimension == 3:
         section = cut_plane(found, near, frame.normal, tol, leave_out=leave_out)
-        lacking = _lacking_in_space(section, place.sides(found.points, near, frame.v, tol), frame.v, owner, tol)
+        reached = _reached(found, place.sides(found.points, near, frame.v, tol))
+        lacking = _lacking_in_space(section, reached, frame.v, owner, tol)
     else:
+        reached = _reached(found, sides)
         lacking = [], [], _lacking_in_plane(found, sides, owner)
     lengths = np.linalg.norm(segments[:, 1] - segments[:, 0], axis=1)
-    record = _record(found, start, along, tol, own, segments, owner, lengths, lacking, defaulted)
+    record = _record(found, start, along, tol, own, segments, owner, lengths, lacking, defaulted, reached)
     return LineCut(found, start, along, segments, owner, lengths, defaulted, record)
 
 
@@ -227,18 +241,23 @@ def _segments(
     return numbers.written().reshape(-1, 2, mesh.dimension), np.array(owner, dtype=np.int64), defaulted
 
 
+def _reached(mesh: Mesh, sides: Sides) -> np.ndarray:
+    """For each cell of the mesh, whether it is cut and its corners are not all on one of these sides."""
+    found = np.zeros(mesh.total, dtype=bool)
+    for block in mesh.blocks:
+        found[block.first : block.first + len(block)] = sides.reached(block)
+    return found
+
+
 def _lacking_in_space(
-    section: PlaneCut, beside: Sides, across: Vector, owner: np.ndarray, tol: float
+    section: PlaneCut, reached: np.ndarray, across: Vector, owner: np.ndarray, tol: float
 ) -> tuple[list[int], list[int], list[int]]:
     """Of the cells that the line may reach: those whose section is not whole, those that the plane only touches, and
     those without a segment though a polygon has corners on both sides of the line.
 
     The line cut's plane and this section's have the same normal up to rounding. `across` is in the plane and
-    perpendicular to the line; `beside` are the sides of the plane that holds the line and has this normal.
+    perpendicular to the line; `reached` tells of each cell whether the plane that holds the line and has this normal reaches it.
     """
-    near = np.zeros(section.mesh.total, dtype=bool)
-    for block in section.mesh.blocks:
-        near[block.first : block.first + len(block)] = beside.reached(block)
     record = section.record
     undrawn = {cell.cell for cell in record.undrawn}.union(
         record.crossed_without_edge, record.crossed_face_without_segment, record.within_tolerance, record.not_finite)
@@ -249,7 +268,7 @@ def _lacking_in_space(
         starts = np.concatenate([[0], section.ends[:-1]])
         crossed = (np.maximum.reduceat(away, starts) > tol) & (np.minimum.reduceat(away, starts) < -tol)
     without = np.setdiff1d(section.polygon_cell[crossed], owner)
-    return sorted(c for c in undrawn - touching if near[c]), sorted(c for c in touching if near[c]), without.tolist()
+    return sorted(c for c in undrawn - touching if reached[c]), sorted(c for c in touching if reached[c]), without.tolist()
 
 
 def _lacking_in_plane(mesh: Mesh, sides: Sides, owner: np.ndarray) -> list[int]:
@@ -260,21 +279,22 @@ def _lacking_in_plane(mesh: Mesh, sides: Sides, owner: np.ndarray) -> list[int]:
 
 def _record(
     mesh: Mesh, origin: Vector, direction: Vector, tol: float, own: float, segments: np.ndarray, owner: np.ndarray,
-    lengths: np.ndarray, lacking: tuple[list[int], list[int], list[int]], defaulted: dict[int, int],
+    lengths: np.ndarray, lacking: tuple[list[int], list[int], list[int]], defaulted: dict[int, int], reached: np.ndarray,
 ) -> LineRecord:
-    reached: dict[str, int] = {}
+    uncut: dict[str, int] = {}
     for name, dimension, count, _ in mesh.others:
         if dimension == mesh.dimension:
-            reached[name] = reached.get(name, 0) + count
+            uncut[name] = uncut.get(name, 0) + count
     along = place.unit(direction)
     near = place.nearest_on_line(origin, direction, mesh.centre() or origin)
     covered, stretches = _covered(segments, near, along, 2 * (max(tol, own) if own < np.inf else tol))
     offset = place.dot(tuple(a - b for a, b in zip(near, origin)), along)  # from the origin given
     stretches = [[a + offset, b + offset] for a, b in stretches]
+    guessed = defaulted_cells(mesh, defaulted)
     record = LineRecord(
-        VERSION, mesh.source, list(origin), list(direction), tol, own, mesh.extent, mesh.total, mesh.types(), mesh.not_cut(), reached,
+        VERSION, mesh.source, list(origin), list(direction), tol, own, mesh.extent, mesh.total, mesh.types(), mesh.not_cut(), uncut,
         len(np.unique(owner)), len(segments), float(lengths.sum()), covered, stretches, _curved(mesh, np.unique(owner)), *lacking, mesh.dropped,
-        sum(defaulted.values()), defaulted_cells(mesh, defaulted),
+        sum(defaulted.values()), guessed, [cell for cell in guessed if reached[cell.cell]],
     )
     record.warnings = [f"meshio says: {remark}" for remark in mesh.remarks]
     if not len(segments):
@@ -283,10 +303,10 @@ def _record(
         record.warnings.append(below_own(tol, own, "line"))
     if not record.all_drawn:
         record.warnings.append(f"pieces of the line may be missing in {len({*record.undrawn, *record.without_segment})} cells")
-    if record.defaulted:
-        record.warnings.append(mend_defaulted(record.defaulted))
-    if any(reached.values()):
-        record.warnings.append(f"the line may meet cells of types that are not cut: {counted(reached)}")
+    if record.defaulted_reached:
+        record.warnings.append(mend_defaulted(sum(cell.defaulted for cell in record.defaulted_reached)))
+    if any(uncut.values()):
+        record.warnings.append(f"the line may meet cells of types that are not cut: {counted(uncut)}")
     return record
 
 

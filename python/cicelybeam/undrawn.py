@@ -37,7 +37,7 @@ class Finding:
 
 
 def findings(cut: PlaneCut | LineCut) -> list[Finding]:
-    """Every cell where something is missing or a guess; those that lose no area last."""
+    """Every cell where something is missing or a guess, of a line those that it may reach; those that lose no area last."""
     return _of_plane(cut) if isinstance(cut, PlaneCut) else _of_line(cut)
 
 
@@ -56,7 +56,7 @@ def _of_line(cut: LineCut) -> list[Finding]:
     touching = set(record.touching)
     found = [_plain(cut, cell, "its section is not whole") for cell in record.undrawn if cell not in touching]
     found += [_plain(cut, cell, "passed through, and there is no segment") for cell in record.without_segment]
-    return found + _defaulted(cut, record.defaulted_cells)
+    return found + _defaulted(cut, record.defaulted_reached)
 
 
 def _defaulted(cut: PlaneCut | LineCut, guessed: list[DefaultedCell]) -> list[Finding]:

@@ -265,6 +265,9 @@ def test_any_cells_by_a_line(kind, given_numbers, direction, tol, all_odd):
         loops = [points.reshape(-1, 2)[loop] for loop in np.split(nodes, lasts[:-1]) if len(loop)]
         assert cut.defaulted_by_cell.get(k, 0) == (sum(by_default(face, frame.origin, frame.normal, tol) for face in faces)
                                                    + sum(by_default(loop, (0, 0), (0, 1), tol) for loop in loops))
+        beside = [place.dot(tuple(x - o for x, o in zip(corner, frame.origin)), frame.v) for face in faces for corner in face]
+        clear = all(d > tol for d in beside) or all(d < -tol for d in beside)  # on one side, where the line does not reach
+        assert (k in [each.cell for each in cut.record.defaulted_reached]) == (k in cut.defaulted_by_cell and not clear)
     assert cut.defaulted == cut.record.defaulted == sum(cut.defaulted_by_cell.values())
 
 
@@ -488,6 +491,35 @@ def test_where_guessed_cells_of_a_line_are():
     assert cut.segment_cell.tolist() == [0, 1, 2, 3] and list(found) == [0, 2, 3]
     for cell, near in found.items():
         assert near == cut.segments[cell].mean(axis=0).tolist() and 10 * cell < near[0] < 10 * cell + 6
+
+
+def test_cells_that_the_line_cannot_reach(tmp_path, capsys):
+    """Their guessed crossings are counted, and are no reason: no piece of the line rests on them."""
+    brick, far = CUBE + [0, -0.5, -0.5], low_along(z=1000)
+    for cells in ([far], [low_along(10), far]):
+        corners = np.arange(8, 8 + 4 * len(cells)).reshape(-1, 4)
+        meshio.Mesh(np.concatenate([brick, *cells]), [("hexahedron", [list(range(8))]), ("tetra", corners)]).write(tmp_path / "a.vtu")
+        cut = cicelybeam.cut_line(cicelybeam.read(tmp_path / "a.vtu"), (0, 0, 0), (1, 0, 0), 0)
+        record, last, near = cut.record, len(cells), [1] if len(cells) > 1 else []
+        assert cut.defaulted_by_cell == {**dict.fromkeys(near, 6), last: 6} and record.defaulted == cut.defaulted
+        assert [each.cell for each in record.defaulted_cells] == [*near, last] and [each.cell for each in record.defaulted_reached] == near
+        why = "6 crossings lie in the middle by default, in 1 cell: 1"
+        assert record.reasons == ([(3, why)] if near else []) and [each.cell for each in findings(cut)] == near
+        assert record.nothing_lost == record.as_dict()["nothing_lost"] == (not near)
+        assert ("6 crossings in 1 cell lie in the middle" in record.sentence()) == bool(near) and "12 crossings" not in record.sentence()
+        assert [warning for warning in record.warnings if "default" in warning] == ([MEND.replace("12", "6")] if near else [])
+        assert ("crossing guessed: 1 cell" in legend_of(figure(cut))) == bool(near)
+        assert run("line", tmp_path / "a.vtu", "--origin", "0,0,0", "--direction", "x", "--tolerance", 0) == (3 if near else 0)
+        told = "12 crossings lie in the middle by default, in 2 cells: 1, 2 (6 in cells that the line may reach)" if near else (
+            f"{why} (0 in cells that the line may reach)")
+        assert f"\nguessed           {told}\n" in capsys.readouterr().out
+
+
+def test_whether_anything_is_lost_of_a_line():
+    """As exit status 0 says, with `all_cut`."""
+    for cut, whole in ((cicelybeam.cut_line(box(2), (0, 0.3, 0.3), (1, 0, 0)), True), (cicelybeam.cut_line(quad(1e-310), (0, 0), (1, 0), 0), False),
+                       (cicelybeam.cut_line(three_along_a_line(), (0, 0, 0), (1, 0, 0), 0), False)):
+        assert cut.record.nothing_lost == (not cut.record.reasons) == whole and cut.record.all_cut
 
 
 def test_a_plane_mesh_is_told_of_the_line_alone():
