@@ -247,16 +247,17 @@ def test_a_line_in_space_counts_both_kinds(y, faces, z, loops):
 
 @settings(max_examples=200)
 @given(st.sampled_from(["tetra", "wedge", "hexahedron"]), st.lists(numbers, min_size=24, max_size=24), st.sampled_from([(1, 0, 0), (0, 0, -2), (1, 2, 3)]),
-       st.sampled_from([0.0, 1e-310, 0.5]), st.booleans())
-def test_any_cells_by_a_line(kind, given_numbers, direction, tol, all_odd):
-    """The faces' crossings, and those of the loops that their segments are stitched to."""
+       st.sampled_from([0.0, 1e-310, 0.5]), st.booleans(), st.sampled_from([0.0, -2.0]))
+def test_any_cells_by_a_line(kind, given_numbers, direction, tol, all_odd, beside):
+    """The faces' crossings, and those of the loops that their segments are stitched to; also where the line passes beside a cell."""
     mesh = box(1, kind, (1.0, 1.0, 3e-310))
     odd = np.array(given_numbers).reshape(8, 3)
     mesh.points = odd if all_odd else np.where(np.isin(np.arange(8), (1, 6))[:, None], odd, mesh.points)
-    cut = cicelybeam.cut_line(mesh, (0, 0, 0), direction, tol)
     along = tuple(map(float, direction))
+    origin = tuple(beside * x for x in place.plane_of_line((0.0, 0.0, 0.0), along).v)
+    cut = cicelybeam.cut_line(mesh, origin, direction, tol)
     with np.errstate(all="ignore"):  # as in the cut itself
-        frame = place.plane_of_line(place.nearest_on_line((0.0, 0.0, 0.0), along, cut.mesh.centre() or (0.0, 0.0, 0.0)), along)
+        frame = place.plane_of_line(place.nearest_on_line(origin, along, cut.mesh.centre() or origin), along)
     for k in range(cut.mesh.total):
         faces = [[tuple(corner) for corner in cut.mesh.points[face].tolist()] for face in cut.mesh.blocks[0].faces(k)]
         ends = [[place.dot(tuple(x - o for x, o in zip(end, frame.origin)), axis) for axis in (frame.u, frame.v)]
@@ -265,8 +266,8 @@ def test_any_cells_by_a_line(kind, given_numbers, direction, tol, all_odd):
         loops = [points.reshape(-1, 2)[loop] for loop in np.split(nodes, lasts[:-1]) if len(loop)]
         assert cut.defaulted_by_cell.get(k, 0) == (sum(by_default(face, frame.origin, frame.normal, tol) for face in faces)
                                                    + sum(by_default(loop, (0, 0), (0, 1), tol) for loop in loops))
-        beside = [place.dot(tuple(x - o for x, o in zip(corner, frame.origin)), frame.v) for face in faces for corner in face]
-        clear = all(d > tol for d in beside) or all(d < -tol for d in beside)  # on one side, where the line does not reach
+        away = [place.dot(tuple(x - o for x, o in zip(corner, frame.origin)), frame.v) for face in faces for corner in face]
+        clear = all(d > tol for d in away) or all(d < -tol for d in away)  # on one side, where the line does not reach
         assert (k in [each.cell for each in cut.record.defaulted_reached]) == (k in cut.defaulted_by_cell and not clear)
     assert cut.defaulted == cut.record.defaulted == sum(cut.defaulted_by_cell.values())
 
