@@ -42,11 +42,6 @@ the polygons drawn, how many are flat or open and so not drawn, and the area. Be
 methods section.
 """
 
-GUESSED = """\
-  guessed   crossings that lie in the middle of their edges by default: the distances of an edge's ends from {}
-            differ by NaN or by no more than 2^-1022
-"""
-
 TERMS = """\
 terms:
   trace     a segment of the plane on a face of a cell, before its ends are welded within the tolerance
@@ -54,9 +49,15 @@ terms:
   in loops  edges of walks that close and have an area: the polygons that are drawn
   flat      edges of walks that close without an area above the squared tolerance, not drawn
   open      edges of walks that do not close, not drawn
-""" + GUESSED.format("the plane")
+  guessed   crossings that lie in the middle of their edges by default: the distances of an edge's ends from the plane
+            differ by NaN or by no more than 2^-1022
+"""
 
-LINE_TERMS = "terms:\n" + GUESSED.format("the line, or in space from\n            the plane that holds it,")
+LINE_TERMS = """\
+terms:
+  guessed   crossings that lie in the middle of their edges by default: the distances of an edge's ends from the line, or
+            in space from the plane that holds it, differ by NaN or by no more than 2^-1022
+"""
 
 LINE = """\
 Cuts the cells of a space mesh or of a plane mesh by a line, and prints how much of the line lies in them. Give three
