@@ -59,10 +59,11 @@ DefaultedBound c ps = defaulted c ps ≤ length ps
 abbrev pub CellDefaultedBound : Cut → List (List Vector) → Type 0
 CellDefaultedBound c fs = cell_defaulted c fs ≤ corners fs
 
--- no directed edge has a crossing where a polygon is clipped to the side that is kept
+-- a directed edge has a crossing, by default or not
 abbrev pub side_crosses : Cut → Float → Seg → Bool
 side_crosses c s (seg a b) = crosses (inside c (signed c s a)) (inside c (signed c s b))
 
+-- no directed edge of a polygon has one, on the side that is kept
 abbrev pub NoCrossing : Cut → List Vector → Type 0
 NoCrossing c ps = (s : Float) → kept_side c ps ≡ Some s → count_by (side_crosses c s) (edges ps) ≡ 0
 
