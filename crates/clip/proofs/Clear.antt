@@ -8,13 +8,13 @@ use Prim.Native.Nat.{ℕ, zero, suc, ◌-◌}
 use lib.Dec.{ltb}
 use lib.Ieee.{Float, le}
 use lib.ListN.{length, get_or, take}
-use Rattle.vector.specs.Number.{f1, minus_one, abs}
+use Rattle.vector.specs.Number.{f0, f1, minus_one, abs}
 use Rattle.vector.specs.Vector.{Vector, dist2}
 use Rattle.vector.specs.Rows.{Seg, seg}
 use Rattle.clip.specs.Clip.{Cut, any_above, any_below, away, by_side, clip_sides, clipped, edges, edges_to, kept_side}
 use Rattle.clip.specs.Clip.{plane_section_segments, push_all, push_segment, push_segments, push_unique, segments}
 use Rattle.clip.specs.Clip.{tol_squared, unique, without_closing}
-use Rattle.clip.specs.Clear.{Clear, ClearAbove, ClearBelow, ClearFace, ClearSide, Each, LeftOut}
+use Rattle.clip.specs.Clear.{Clear, ClearAbove, ClearBelow, ClearFace, ClearSide, Each, Higher, LeftOut, Lower}
 use Rattle.clip.proofs.Signs.{above_inside, above_off, below_inside, below_not_above, below_off}
 
 -- ---- each point of a list
@@ -114,7 +114,7 @@ clear_above c (p ∷ ps) h =
     (clear_side c f1 (p ∷ ps)
     (each_map (λ q k. record { off = above_off c.tol (away c q) k.higher; within = k.within }) (p ∷ ps) h))
 
-none_above : (c : Cut) (ps : List Vector) → Each (ClearBelow c) ps → any_above c ps ≡ false
+pub none_above : (c : Cut) (ps : List Vector) → Each (ClearBelow c) ps → any_above c ps ≡ false
 unfolding any_above
 none_above c [] h = refl
 none_above c (p ∷ ps) h = rw h.0.not_higher (none_above c ps h.1)
@@ -130,19 +130,21 @@ clear_below c (p ∷ ps) h =
 pub clear_face : (c : Cut) (ps : List Vector) → ClearFace c ps
 clear_face c ps = record { above = clear_above c ps; below = clear_below c ps }
 
+-- with a tolerance that is not negative, above tol is clear above, and below -tol is clear below
+module _ (c : Cut) (h : le f0 c.tol ≡ true) where
+  pub each_above : (ps : List Vector) → Each (Higher c) ps → Each (ClearAbove c) ps
+  each_above ps g = each_map (λ p k. record { higher = k; within = above_inside c.tol (away c p) h k }) ps g
+
+  pub each_below : (ps : List Vector) → Each (Lower c) ps → Each (ClearBelow c) ps
+  each_below ps g =
+      each_map
+      (λ p k. record {
+        lower = k;
+        not_higher = below_not_above c.tol (away c p) h k;
+        within = below_inside c.tol (away c p) h k;
+      })
+      ps g
+
 pub left_out : (c : Cut) (ps : List Vector) → LeftOut c ps
 left_out c ps =
-    record {
-      above =
-          λ h g. clear_above c ps
-          (each_map (λ p k. record { higher = k; within = above_inside c.tol (away c p) h k }) ps g);
-      below =
-          λ h g. clear_below c ps
-          (each_map
-          (λ p k. record {
-            lower = k;
-            not_higher = below_not_above c.tol (away c p) h k;
-            within = below_inside c.tol (away c p) h k;
-          })
-          ps g);
-    }
+    record { above = λ h g. clear_above c ps (each_above c h ps g); below = λ h g. clear_below c ps (each_below c h ps g) }

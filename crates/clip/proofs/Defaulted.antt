@@ -1,24 +1,23 @@
 -- The crossings by default: at most one an edge, none of a face that is left out, and their count as the loops add it up. Assumes nothing.
 use Rattle.std.specs.Prelude.{Option, Some, None, count_by}
 use Rattle.std.proofs.lemmas.List.Sums.{count_by-le-length, sum_by-cons}
-use mathlib.Core.Path.{◌≡◌, refl, ap, sym, ◌∙◌}
+use mathlib.Core.Path.{◌≡◌, refl, ◌∙◌}
 use mathlib.Core.List.{List, [], ◌∷◌}
 use mathlib.Core.Bool.{Bool, true, false, cond, ◌&&◌}
 use Prim.Native.Nat.{◌+◌, ◌≤◌}
 use native.Mathlib.Omega.{arith}
 use lib.Dec.{ltb}
-use lib.Ieee.{Float, le}
+use lib.Ieee.{Float}
 use lib.ListN.{length}
-use Rattle.vector.specs.Number.{f0, f1, minus_one}
+use Rattle.vector.specs.Number.{f1, minus_one}
 use Rattle.vector.specs.Vector.{Vector}
 use Rattle.vector.specs.Rows.{Seg, seg}
-use Rattle.clip.specs.Clip.{Cut, any_above, any_below, away, edges, edges_to, inside, kept_side, signed}
-use Rattle.clip.specs.Clear.{Each, Higher, Lower}
+use Rattle.clip.specs.Clip.{Cut, any_above, any_below, edges, edges_to, inside, kept_side, signed}
+use Rattle.clip.specs.Clear.{ClearAbove, ClearBelow, Each}
 use Rattle.clip.specs.Defaulted.{CellDefaultedBound, DefaultedBound, NoCrossing, NoneLeftOut, crosses, defaulted, defaulted_by_side}
 use Rattle.clip.specs.Defaulted.{defaulted_on, defaults, side_crosses, side_defaults}
 use Rattle.clip.proofs.Bound.{edges_length}
-use Rattle.clip.proofs.Clear.{each_map}
-use Rattle.clip.proofs.Signs.{above_inside, below_inside, below_not_above}
+use Rattle.clip.proofs.Clear.{each_above, each_below, each_map, none_above}
 
 -- ---- at most one an edge
 by_side_most : (c : Cut) (ps : List Vector) (g : Option Float) → defaulted_by_side c ps g ≤ length ps
@@ -88,38 +87,24 @@ none_crossing c ps h = by_test (ltb (length ps) 3)
     by_test true = refl
     by_test false = by_side (kept_side c ps) refl
 
--- ---- a face that is left out
-some_same : {s t : Float} → Some s ≡ Some t → s ≡ t
-some_same e = ap (λ (o : Option Float). from o) e
-  where
-    from : Option Float → Float
-    from (Some s) = s
-    from None = f0
-
+-- ---- a face clear of the cut, and one that is left out
 all_within : (c : Cut) (s : Float) (ps : List Vector) → kept_side c ps ≡ Some s → Each (Within c s) ps → NoCrossing c ps
-all_within c s ps e h t q = rw (some_same (sym q ∙ e)) (within_none c s ps h)
+all_within c s ps e h t q = let same : t ≡ s = cc in rw same (within_none c s ps h)
 
-module _ (c : Cut) (t : le f0 c.tol ≡ true) where
-  none_above : (ps : List Vector) → Each (Lower c) ps → any_above c ps ≡ false
-  unfolding any_above
-  none_above [] h = refl
-  none_above (p ∷ ps) h = rw (below_not_above c.tol (away c p) t h.0) (none_above ps h.1)
+above_none : (c : Cut) (ps : List Vector) → Each (ClearAbove c) ps → NoCrossing c ps
+unfolding any_above any_below
+above_none c [] h = λ s e. refl
+above_none c (p ∷ ps) h = all_within c f1 (p ∷ ps) (rw h.0.higher) (each_map (λ q k. k.within) (p ∷ ps) h)
 
-  above_none : (ps : List Vector) → Each (Higher c) ps → NoCrossing c ps
-  unfolding any_above any_below
-  above_none [] h = λ s e. refl
-  above_none (p ∷ ps) h =
-      all_within c f1 (p ∷ ps) (rw h.0) (each_map (λ q k. above_inside c.tol (away c q) t k) (p ∷ ps) h)
-
-  below_none : (ps : List Vector) → Each (Lower c) ps → NoCrossing c ps
-  unfolding any_above any_below
-  below_none [] h = λ s e. refl
-  below_none (p ∷ ps) h =
-      all_within c minus_one (p ∷ ps) (rw (none_above (p ∷ ps) h, h.0)) (each_map (λ q k. below_inside c.tol (away c q) t k) (p ∷ ps) h)
+below_none : (c : Cut) (ps : List Vector) → Each (ClearBelow c) ps → NoCrossing c ps
+unfolding any_above any_below
+below_none c [] h = λ s e. refl
+below_none c (p ∷ ps) h =
+    all_within c minus_one (p ∷ ps) (rw (none_above c (p ∷ ps) h, h.0.lower)) (each_map (λ q k. k.within) (p ∷ ps) h)
 
 pub none_left_out : (c : Cut) (ps : List Vector) → NoneLeftOut c ps
 none_left_out c ps =
     record {
-      above = λ t h. (above_none c t ps h, none_crossing c ps (above_none c t ps h));
-      below = λ t h. (below_none c t ps h, none_crossing c ps (below_none c t ps h));
+      above = λ t h. let n = above_none c ps (each_above c t ps h) in (n, none_crossing c ps n);
+      below = λ t h. let n = below_none c ps (each_below c t ps h) in (n, none_crossing c ps n);
     }
