@@ -5,16 +5,20 @@
 ghost use Rattle.std.specs.Prelude.{◌≡◌, ◌<◌, length};
 ghost use Rattle.std.specs.Float.{binary64};
 ghost use Rattle.root.specs.Root.{sqrt_of};
+ghost use Rattle.rows.specs.Outcome.{told_count};
 ghost use Rattle.rows.specs.Refusals.{outcome_of};
 ghost use Rattle.vector.specs.Tolerance.{told_tolerance, tolerance_of};
 ghost use Rattle.cell.specs.Read.{cell};
 ghost use Rattle.stitch.specs.Entry.{Gave, Small, buffers, lengths, section_told, stitch_alone};
+ghost use Rattle.stitch.specs.Comparisons.{comparisons_told, stitch_comparisons, stitched_of};
 ghost use Rattle.cuts.specs.Cuts.{through};
-ghost use Rattle.cuts.specs.Defaulted.{line_count, section_count, stitched_in, told_count};
+ghost use Rattle.cuts.specs.Comparisons.{section_comparisons};
+ghost use Rattle.cuts.specs.Defaulted.{line_count, section_count, stitched_in};
 ghost use Rattle.cuts.specs.Lines.{GaveLine, line_told};
 ghost use Rattle.cuts.specs.declared.Way.TheVariants as way;
 ghost use Rattle.plane_cut.specs.PlaneCut.{plane_cut};
 ghost use Rattle.plane_cut.specs.Defaulted.{plane_defaulted};
+ghost use Rattle.plane_cut.specs.Comparisons.{plane_comparisons};
 ghost use Rattle.line_cut.specs.LineCut.{line_cut};
 ghost use Rattle.line_cut.specs.Defaulted.{line_defaulted};
 ghost use Rattle.plane_cell.specs.PlaneCell.{plane_cell_cut};
@@ -27,10 +31,11 @@ use cell::Cell;
 use clip::Found;
 use cuts::{CellSection, Through, Way};
 use rows::Refusal;
-use stitch::Stitched;
+use stitch::StitchedSegments;
 
-// struct cicelybeam_section: refusal 0, how many points, nodes and loops were written, the four counts of edges, and how many crossings
-// were defaulted; or the number of a refusal, and 0 for all else. C's `open` is `opened` here, since `open` is a reserved word.
+// struct cicelybeam_section: refusal 0, how many points, nodes and loops were written, the four counts of edges, how many crossings were
+// defaulted, and how many comparisons of points welding made; or the number of a refusal, and 0 for all else. C's `open` is `opened` here,
+// since `open` is a reserved word.
 #[repr(C)]
 #[derive(Clone, Copy, Default)]
 pub struct Section {
@@ -43,6 +48,7 @@ pub struct Section {
     pub flat: u32,
     pub opened: u32,
     pub defaulted: u32,
+    pub comparisons: u32,
 }
 
 // struct cicelybeam_line: refusal 0, how many segments were written, and how many crossings were defaulted; or the number of a refusal,
@@ -96,6 +102,9 @@ pub fn cicelybeam_plane(
         (buffers numbers.new nodes.new ends.new)
         × (result.defaulted
         ≡ told_count (plane_defaulted (cell cell_type conn.now coords.now) (through origin.now normal.now) tol
+        (lengths (buffers numbers.old nodes.old ends.old))))
+        × (result.comparisons
+        ≡ told_count (plane_comparisons (cell cell_type conn.now coords.now) (through origin.now normal.now) tol
         (lengths (buffers numbers.old nodes.old ends.old)))) }
 {
     let cell = Cell {
@@ -241,7 +250,10 @@ pub fn cicelybeam_stitch(
         (lengths (buffers numbers.old nodes.old ends.old)))
         (told_in result) (buffers numbers.old nodes.old ends.old)
         (buffers numbers.new nodes.new ends.new)
-        × (result.defaulted ≡ 0) }
+        × (result.defaulted ≡ 0)
+        × (result.comparisons
+        ≡ told_count (stitch_comparisons segments.now tol
+        (lengths (buffers numbers.old nodes.old ends.old)))) }
 {
     told_section(without_crossings(stitch::alone::stitch_alone(
         segments, tol, numbers, nodes, ends,
@@ -270,19 +282,24 @@ pub fn cicelybeam_sqrt(x: f64) -> f64
 }
 
 // What was stitched alone, as a section of which no crossing was computed.
-fn without_crossings(answer: Result<Stitched, Refusal>) -> Result<CellSection, Refusal>
-    ensures { (stitched_in result ≡ answer) × (section_count result ≡ 0) }
+fn without_crossings(answer: Result<StitchedSegments, Refusal>) -> Result<CellSection, Refusal>
+    ensures { (stitched_in result ≡ stitched_of answer) × (section_count result ≡ 0)
+        × (section_comparisons result ≡ comparisons_told answer) }
 {
+    let stitching = answer?;
     Ok(CellSection {
-        stitched: answer?,
+        stitched: stitching.stitched,
         defaulted: 0,
+        comparisons: stitching.comparisons,
     })
 }
 
 // An answer as a C struct. `From` asks nothing, and this asks that the numbers fit 32 bits.
 fn told_section(answer: Result<CellSection, Refusal>) -> Section
-    requires { Small (section_told (stitched_in answer)) × (section_count answer < 4294967296) }
-    ensures { (told_in result ≡ section_told (stitched_in answer)) × (result.defaulted ≡ section_count answer) }
+    requires { Small (section_told (stitched_in answer)) × (section_count answer < 4294967296)
+        × (section_comparisons answer < 4294967296) }
+    ensures { (told_in result ≡ section_told (stitched_in answer)) × (result.defaulted ≡ section_count answer)
+        × (result.comparisons ≡ section_comparisons answer) }
 {
     match answer {
         Ok(section) => told_cell_section(section),
@@ -295,8 +312,10 @@ fn told_section(answer: Result<CellSection, Refusal>) -> Section
 
 // A section's numbers in 32 bits, which it asks as well.
 fn told_cell_section(section: CellSection) -> Section
-    requires { Small (record { refusal = 0; answer = section.stitched }) × (section.defaulted < 4294967296) }
-    ensures { (told_in result ≡ record { refusal = 0; answer = section.stitched }) × (result.defaulted ≡ section.defaulted) }
+    requires { Small (record { refusal = 0; answer = section.stitched }) × (section.defaulted < 4294967296)
+        × (section.comparisons < 4294967296) }
+    ensures { (told_in result ≡ record { refusal = 0; answer = section.stitched }) × (result.defaulted ≡ section.defaulted)
+        × (result.comparisons ≡ section.comparisons) }
 {
     let s = section.stitched;
     Section {
@@ -309,6 +328,7 @@ fn told_cell_section(section: CellSection) -> Section
         flat: s.counts.flat as u32,
         opened: s.counts.opened as u32,
         defaulted: section.defaulted as u32,
+        comparisons: section.comparisons as u32,
     }
 }
 

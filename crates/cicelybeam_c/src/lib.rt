@@ -5,15 +5,17 @@
 ghost use Rattle.std.specs.Prelude.{◌≡◌, length};
 ghost use Rattle.std.specs.Float.{binary64};
 ghost use Rattle.root.specs.Root.{sqrt_of};
+ghost use Rattle.rows.specs.Outcome.{told_count};
 ghost use Rattle.vector.specs.Tolerance.{told_tolerance, tolerance_of};
 ghost use Rattle.cell.specs.Read.{cell};
 ghost use Rattle.stitch.specs.Entry.{Gave, buffers, lengths, stitch_alone};
+ghost use Rattle.stitch.specs.Comparisons.{stitch_comparisons};
 ghost use Rattle.cuts.specs.Cuts.{through};
-ghost use Rattle.cuts.specs.Defaulted.{told_count};
 ghost use Rattle.cuts.specs.Lines.{GaveLine};
 ghost use Rattle.cuts.specs.declared.Way.TheVariants as way;
 ghost use Rattle.plane_cut.specs.PlaneCut.{plane_cut};
 ghost use Rattle.plane_cut.specs.Defaulted.{plane_defaulted};
+ghost use Rattle.plane_cut.specs.Comparisons.{plane_comparisons};
 ghost use Rattle.line_cut.specs.LineCut.{line_cut};
 ghost use Rattle.line_cut.specs.Defaulted.{line_defaulted};
 ghost use Rattle.plane_cell.specs.PlaneCell.{plane_cell_cut};
@@ -44,6 +46,9 @@ pub extern "C" fn cicelybeam_plane(
         (buffers numbers.new nodes.new ends.new)
         × (result.defaulted
         ≡ told_count (plane_defaulted (cell cell_type conn.now coords.now) (through origin.now normal.now) tol
+        (lengths (buffers numbers.old nodes.old ends.old))))
+        × (result.comparisons
+        ≡ told_count (plane_comparisons (cell cell_type conn.now coords.now) (through origin.now normal.now) tol
         (lengths (buffers numbers.old nodes.old ends.old)))) }
 {
     cicelybeam::cicelybeam_plane(
@@ -155,7 +160,10 @@ pub extern "C" fn cicelybeam_stitch(
         (lengths (buffers numbers.old nodes.old ends.old)))
         (told_in result) (buffers numbers.old nodes.old ends.old)
         (buffers numbers.new nodes.new ends.new)
-        × (result.defaulted ≡ 0) }
+        × (result.defaulted ≡ 0)
+        × (result.comparisons
+        ≡ told_count (stitch_comparisons segments.now tol
+        (lengths (buffers numbers.old nodes.old ends.old)))) }
 {
     cicelybeam::cicelybeam_stitch(segments, tol, numbers, nodes, ends)
 }

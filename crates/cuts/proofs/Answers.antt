@@ -10,12 +10,11 @@ use Rattle.vector.specs.Rows.{Seg}
 use Rattle.clip.specs.Code.{Segments}
 use Rattle.clip.specs.declared.Found.{Found}
 use Rattle.clip.proofs.Written.{segments_count}
-use Rattle.rows.specs.Outcome.{Outcome, refused, found, unless}
-use Rattle.rows.proofs.Outcomes.{test_passed}
+use Rattle.rows.specs.Outcome.{Outcome, refused, found, unless, told_count}
+use Rattle.rows.proofs.Outcomes.{test_passed, count_gave}
 use Rattle.cell.specs.Read.{Polygon, Cell, polygons_of, corners_of, Accepted}
 use Rattle.cuts.specs.Cuts.{cut_cell}
 use Rattle.cuts.specs.Lines.{GaveLine, ToldLine, line_told}
-use Rattle.cuts.specs.Defaulted.{told_count}
 use Rattle.cuts.proofs.Cutting.{at_work}
 use Rattle.cuts.proofs.Segments.{segments_over}
 use Rattle.std.specs.Prelude.{Ok}
@@ -29,13 +28,6 @@ line_gave {w = w} r {zs = zs} e h l room =
       told_is = ap {B = ToldLine} (λ n. record { refusal = 0; segments = n }) (segments_count h);
       numbers_are = segments_over h l room;
     })
-
--- crossings that were counted
-pub count_gave : {o : Outcome ℕ} {n k : ℕ} → o ≡ found n → k ≡ n → k ≡ told_count o
-count_gave e h = rw e h
-
-pub none_counted : {o : Outcome ℕ} {k : ℕ} → o ≡ refused k → 0 ≡ told_count o
-none_counted e = rw e
 
 -- the work of a cut that gives segments: 7, and what is made of the polygons; a buffer of length a holds q numbers for each corner
 abbrev pub in_room : {A B : Type 0} → ℕ → ℕ → (List Polygon → B → A) → ℕ → List Polygon → B → Outcome A

@@ -5,18 +5,13 @@ use Prim.Native.Nat.{ℕ, ◌≤◌}
 use native.Mathlib.Omega.{arith}
 use lib.Ieee.{Float}
 use lib.ListN.{length}
-use Rattle.rows.specs.Outcome.{Outcome, refused, found, Sound}
+use Rattle.rows.specs.Outcome.{Outcome, refused, found, Sound, told_count}
 use Rattle.vector.specs.declared.Plane.{Plane}
 use Rattle.cell.specs.Read.{Polygon, Cell, corners_of, space_cell}
 use Rattle.clip.specs.Cell.{cut_by}
 use Rattle.clip.proofs.Defaulted.{cell_defaulted_bound}
-use Rattle.cuts.specs.Defaulted.{defaulted_by, told_count}
+use Rattle.cuts.specs.Defaulted.{defaulted_by}
 use Rattle.cuts.proofs.Sizes.{corners_in_all, found_few}
-
--- what is told: 0, or what was found
-pub told_has : (P : ℕ → Type 0) (o : Outcome ℕ) → P 0 → Sound 1 7 P o → P (told_count o)
-told_has P (refused k) z h = z
-told_has P (found n) z h = h
 
 abbrev pub Few : Cell → ℕ → Type 0
 Few k n = (n ≤ corners_of (space_cell k)) × (n ≤ 256)

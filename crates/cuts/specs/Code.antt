@@ -6,9 +6,11 @@ use Rattle.vector.specs.declared.Plane.{Plane}
 use Rattle.cell.specs.Read.{Polygon, Cell, space_cell, polygons_of}
 use Rattle.clip.specs.Cell.{at_most}
 use Rattle.walk.specs.Walk.{All}
+use Rattle.stitch.specs.Stitch.{rule_of}
+use Rattle.stitch.specs.Claim.{ComparisonsOf}
 use Rattle.stitch.specs.Code.{AnswerGiven}
 use Rattle.stitch.specs.Entry.{Buffers}
-use Rattle.cuts.specs.Cuts.{Through, section_of, through}
+use Rattle.cuts.specs.Cuts.{Through, section_of, segments_on, through}
 use Rattle.cuts.specs.Defaulted.{defaulted_by}
 use Rattle.cuts.specs.declared.CellSection.{CellSection}
 use Rattle.cuts.specs.declared.Through as code
@@ -31,11 +33,12 @@ pub record Roomy (m : ℕ) (numbers : List Float) (nodes ends : List ℕ) : Type
   pub for_nodes : 3 * m / 2 ≤ length nodes
   pub for_ends : m / 2 ≤ length ends
 
--- the section of polygons by a plane is given, and its crossings by default are counted
+-- the section of polygons by a plane is given, and its crossings by default and comparisons of points are counted
 pub record SectionGiven (f : Plane) (tol : Float) (ps : List Polygon) (r : CellSection) (b b' : Buffers) : Type 0 where
   pub stitched
       : AnswerGiven (section_of f tol ps) r.stitched b.numbers b'.numbers b.nodes b'.nodes b.ends b'.ends
   pub counted : r.defaulted ≡ defaulted_by f tol ps
+  pub compared : ComparisonsOf (rule_of tol).tol2 (segments_on f tol ps) r.comparisons
 
 -- ---- the sizes of scratch
 

@@ -1,7 +1,6 @@
 -- The crossings by default of the cuts, beside what Cuts.antt and Lines.antt say they answer: the same steps refuse, in the same order.
 -- Definitions only.
 use Rattle.std.specs.Prelude.{List, ℕ, Float, Result, Ok, Err}
-use Rattle.rows.specs.Outcome.{Outcome, refused, found}
 use Rattle.rows.specs.declared.Refusal.{Refusal}
 use Rattle.vector.specs.declared.Plane.{Plane}
 use Rattle.cell.specs.Read.{Polygon}
@@ -14,11 +13,6 @@ use Rattle.cuts.specs.declared.CellSection.{CellSection}
 -- how many polygons have on a plane
 abbrev pub defaulted_by : Plane → Float → List Polygon → ℕ
 defaulted_by f tol ps = cell_defaulted (cut_by f tol) ps
-
--- what a cut tells of them: how many, and 0 with a refusal
-abbrev pub told_count : Outcome ℕ → ℕ
-told_count (refused k) = 0
-told_count (found n) = n
 
 -- ---- the code's answers
 

@@ -129,11 +129,12 @@ fn gather_within<const CORNERS: usize, const FACES: usize, const POINTS: usize, 
     )
 }
 
-// What was stitched of a cell, and how many of its crossings were defaulted.
+// What was stitched of a cell, how many of its crossings were defaulted, and how many comparisons of points stitching took.
 #[derive(Clone, Copy)]
 pub struct CellSection {
     pub stitched: Stitched,
     pub defaulted: usize,
+    pub comparisons: usize,
 }
 
 // The section of an accepted cell by a plane: its segments, stitched. The lent buffers stand one by one, as in stitch, and why.
@@ -174,9 +175,10 @@ pub fn section_within<const SEGMENTS: usize>(
     let mut segments = [0.0; SEGMENTS];
     let found = gather_cell(cell, cutting, &mut segments);
     let segments = &segments[..4 * found.segments];
-    let stitched = stitch::stitch_segments(segments, cutting.tol, numbers, nodes, ends);
+    let stitching = stitch::stitch_segments(segments, cutting.tol, numbers, nodes, ends);
     CellSection {
-        stitched,
+        stitched: stitching.stitched,
         defaulted: found.defaulted,
+        comparisons: stitching.comparisons,
     }
 }

@@ -1,14 +1,14 @@
 -- The crossings by default of gathering, beside Gather.antt: those of the plane cut. Definitions and statements only; the theorems are in
 -- proofs/Defaulted.antt and proofs/Alone.antt.
 use Rattle.std.specs.Prelude.{◌≡◌, List, [], ◌∷◌, map, ℕ, ◌+◌, ◌*◌, ◌/◌, ◌≤◌, leb, length, Float}
-use Rattle.rows.specs.Outcome.{Outcome, found, and_then, unless}
+use Rattle.rows.specs.Outcome.{Outcome, found, and_then, unless, told_count}
 use Rattle.vector.specs.declared.Plane.{Plane}
 use Rattle.cell.specs.Faces.{separator}
 use Rattle.cell.specs.Read.{Polygon, Cell, corners_of, numbered_in_space, space_cell}
 use Rattle.cell.specs.Claims.{SameInSpace, faces_as}
 use Rattle.stitch.specs.Entry.{Lengths, room}
 use Rattle.cuts.specs.Cuts.{Through, cut_cell, place_in}
-use Rattle.cuts.specs.Defaulted.{defaulted_by, told_count}
+use Rattle.cuts.specs.Defaulted.{defaulted_by}
 use Rattle.cuts.specs.declared.Way.TheVariants.{Normal}
 use Rattle.plane_cut.specs.Defaulted.{plane_defaulted}
 use Rattle.gather.specs.Gather.{face_alone}

@@ -2,9 +2,10 @@
 #![tactic(auto)]
 
 ghost use Rattle.std.specs.Prelude.{◌≡◌, length};
+ghost use Rattle.rows.specs.Outcome.{told_count};
 ghost use Rattle.cell.specs.Read.{cell_of};
 ghost use Rattle.cuts.specs.Code.{through_of};
-ghost use Rattle.cuts.specs.Defaulted.{line_count, told_count};
+ghost use Rattle.cuts.specs.Defaulted.{line_count};
 ghost use Rattle.cuts.specs.Lines.{GaveLine, line_told};
 ghost use Rattle.gather.specs.Gather.{gather_cut};
 ghost use Rattle.gather.specs.Defaulted.{gather_defaulted};

@@ -8,7 +8,7 @@ use lib.Dec.{leb}
 use lib.Ieee.{Float}
 use lib.ListN.{length, get_or, take, drop, length-append, length-map, drop_of_length-le}
 use Rattle.rows.specs.Outcome.{found}
-use Rattle.rows.proofs.Outcomes.{sound_unless}
+use Rattle.rows.proofs.Outcomes.{sound_unless, told_has}
 use Rattle.vector.specs.Vector.{Vector}
 use Rattle.vector.specs.declared.Plane.{Plane}
 use Rattle.cell.specs.Read.{corners_of, space_cell}
@@ -23,7 +23,6 @@ use Rattle.cell.proofs.Alike.{alike_in_space}
 use Rattle.cuts.specs.Cuts.{cut_cell, place_in}
 use Rattle.cuts.specs.declared.Way.TheVariants.{Direction}
 use Rattle.cuts.proofs.Cutting.{space_cut_sound}
-use Rattle.cuts.proofs.Defaulted.{told_has}
 use Rattle.cuts.proofs.Sizes.{corners_in_all, found_few}
 use Rattle.line_cut.specs.LineCut.{axis}
 use Rattle.line_cut.specs.Defaulted.{AlikeDefaulted, DefaultedOnLineBound, LineDefaultedBound, defaulted_in, defaulted_on_line, line_defaulted}

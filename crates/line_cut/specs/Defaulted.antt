@@ -1,7 +1,7 @@
 -- The crossings by default of the line cut of a cell in space, beside LineCut.antt: those of the cell on a plane, and those made where the
 -- loops of that section are cut. Definitions and statements only; the theorems are in proofs/Defaulted.antt.
 use Rattle.std.specs.Prelude.{◌≡◌, List, map, ℕ, ◌+◌, ◌*◌, ◌≤◌, leb, sum_by, Float}
-use Rattle.rows.specs.Outcome.{Outcome, found, unless}
+use Rattle.rows.specs.Outcome.{Outcome, found, unless, told_count}
 use Rattle.vector.specs.Vector.{Vector}
 use Rattle.vector.specs.declared.Plane.{Plane}
 use Rattle.cell.specs.Read.{Polygon, Cell, corners_of, space_cell}
@@ -10,7 +10,7 @@ use Rattle.clip.specs.Cell.{corners}
 use Rattle.clip.specs.Defaulted.{defaulted}
 use Rattle.walk.specs.Walk.{point_at}
 use Rattle.cuts.specs.Cuts.{Through, cut_cell, place_in, section_of}
-use Rattle.cuts.specs.Defaulted.{defaulted_by, told_count}
+use Rattle.cuts.specs.Defaulted.{defaulted_by}
 use Rattle.cuts.specs.declared.Way.TheVariants.{Direction}
 use Rattle.line_cut.specs.LineCut.{axis}
 

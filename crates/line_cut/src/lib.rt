@@ -2,6 +2,7 @@
 #![tactic(auto)]
 
 ghost use Rattle.std.specs.Prelude.{◌≡◌, ◌++◌, map, ◌*◌, ◌+◌, ◌/◌, ◌≤◌, length};
+ghost use Rattle.rows.specs.Outcome.{told_count};
 ghost use Rattle.vector.specs.Rows.{all_rows, all_segs, segs};
 ghost use Rattle.cell.specs.Read.{cell_of, polygons_of, space_cell};
 ghost use Rattle.clip.specs.Cell.{at_most};
@@ -10,7 +11,7 @@ ghost use Rattle.clip.specs.View.{cut_of};
 ghost use Rattle.walk.specs.Code.{Below};
 ghost use Rattle.walk.specs.Walk.{point_at};
 ghost use Rattle.cuts.specs.Code.{through_of};
-ghost use Rattle.cuts.specs.Defaulted.{line_count, told_count};
+ghost use Rattle.cuts.specs.Defaulted.{line_count};
 ghost use Rattle.cuts.specs.Lines.{GaveLine, line_told};
 ghost use Rattle.line_cut.specs.LineCut.{axis, line_cut, loop_segments, on_line, segment_on_line};
 ghost use Rattle.line_cut.specs.Defaulted.{line_defaulted, loop_defaulted};

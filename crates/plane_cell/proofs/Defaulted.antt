@@ -6,13 +6,12 @@ use native.Mathlib.Omega.{arith}
 use lib.Dec.{leb}
 use lib.ListN.{length}
 use Rattle.rows.specs.Outcome.{found}
-use Rattle.rows.proofs.Outcomes.{sound_unless}
+use Rattle.rows.proofs.Outcomes.{sound_unless, told_has}
 use Rattle.cell.specs.Types.{plane_type}
 use Rattle.cell.specs.Read.{corners_of, plane_cell, typed_in_plane}
 use Rattle.cell.proofs.Alike.{alike_in_plane}
 use Rattle.cuts.specs.Cuts.{cut_cell}
 use Rattle.cuts.proofs.Cutting.{cut_sound}
-use Rattle.cuts.proofs.Defaulted.{told_has}
 use Rattle.plane_cell.specs.PlaneCell.{line_through}
 use Rattle.plane_cell.specs.Defaulted.{AlikeDefaulted, PlaneCellDefaultedBound, defaulted_in, plane_cell_defaulted, polygon_defaulted}
 use Rattle.plane_cell.proofs.Lines.{line_placed}

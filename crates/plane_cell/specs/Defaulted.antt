@@ -1,13 +1,12 @@
 -- The crossings by default of the line cut of a cell in the plane, beside PlaneCell.antt. Definitions and statements only; the theorems are
 -- in proofs/Defaulted.antt.
 use Rattle.std.specs.Prelude.{◌≡◌, List, [], ◌∷◌, ℕ, ◌*◌, ◌≤◌, leb, Float}
-use Rattle.rows.specs.Outcome.{Outcome, found, unless}
+use Rattle.rows.specs.Outcome.{Outcome, found, unless, told_count}
 use Rattle.cell.specs.Read.{Polygon, Cell, corners_of, plane_cell}
 use Rattle.cell.specs.Claims.{SameInPlane}
 use Rattle.clip.specs.Clip.{Cut}
 use Rattle.clip.specs.Defaulted.{defaulted}
 use Rattle.cuts.specs.Cuts.{Through, cut_cell}
-use Rattle.cuts.specs.Defaulted.{told_count}
 use Rattle.cuts.specs.declared.Way as W
 use Rattle.plane_cell.specs.PlaneCell.{line_through}
 

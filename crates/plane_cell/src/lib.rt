@@ -2,11 +2,12 @@
 #![tactic(auto)]
 
 ghost use Rattle.std.specs.Prelude.{◌≡◌, ◌*◌, ◌≤◌, length};
+ghost use Rattle.rows.specs.Outcome.{told_count};
 ghost use Rattle.cell.specs.Read.{cell_of, plane_cell, polygons_of};
 ghost use Rattle.clip.specs.Cell.{at_most};
 ghost use Rattle.clip.specs.View.{cut_of};
 ghost use Rattle.cuts.specs.Code.{through_of};
-ghost use Rattle.cuts.specs.Defaulted.{line_count, told_count};
+ghost use Rattle.cuts.specs.Defaulted.{line_count};
 ghost use Rattle.cuts.specs.Lines.{GaveLine, line_told};
 ghost use Rattle.plane_cell.specs.PlaneCell.{line_through, normal_by, plane_cell_cut};
 ghost use Rattle.plane_cell.specs.Defaulted.{plane_cell_defaulted};

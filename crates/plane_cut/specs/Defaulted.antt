@@ -1,13 +1,13 @@
 -- The crossings by default of the plane cut, beside PlaneCut.antt. Definitions and statements only; the theorems are in
 -- proofs/Defaulted.antt.
 use Rattle.std.specs.Prelude.{◌≡◌, List, ℕ, ◌*◌, ◌/◌, ◌≤◌, Float}
-use Rattle.rows.specs.Outcome.{Outcome, found, unless}
+use Rattle.rows.specs.Outcome.{Outcome, found, unless, told_count}
 use Rattle.vector.specs.declared.Plane.{Plane}
 use Rattle.cell.specs.Read.{Polygon, Cell, corners_of, space_cell}
 use Rattle.cell.specs.Claims.{SameInSpace}
 use Rattle.stitch.specs.Entry.{Lengths, room}
 use Rattle.cuts.specs.Cuts.{Through, cut_cell, place_in}
-use Rattle.cuts.specs.Defaulted.{defaulted_by, told_count}
+use Rattle.cuts.specs.Defaulted.{defaulted_by}
 use Rattle.cuts.specs.declared.Way.TheVariants.{Normal}
 
 -- 7: as for the section

@@ -1,2 +1,3 @@
 pub mod PlaneCut
 pub mod Defaulted
+pub mod Comparisons

@@ -128,11 +128,11 @@ impl Case<'_> {
     }
 }
 
-// What an entry tells: refusal, points or segments, nodes, loops, the four counts of edges, and how many crossings were defaulted; and a
-// tolerance or a root.
+// What an entry tells: refusal, points or segments, nodes, loops, the four counts of edges, how many crossings were defaulted, and how many
+// comparisons of points were made; and a tolerance or a root.
 #[derive(Clone, Copy, Default)]
 pub struct Answered {
-    pub counts: [u32; 9],
+    pub counts: [u32; 10],
     pub value: f64,
 }
 
@@ -149,6 +149,7 @@ impl From<Section> for Answered {
                 s.flat,
                 s.opened,
                 s.defaulted,
+                s.comparisons,
             ],
             value: 0.0,
         }
@@ -158,7 +159,7 @@ impl From<Section> for Answered {
 impl From<Line> for Answered {
     fn from(l: Line) -> Self {
         Answered {
-            counts: [l.refusal, l.segments, 0, 0, 0, 0, 0, 0, l.defaulted],
+            counts: [l.refusal, l.segments, 0, 0, 0, 0, 0, 0, l.defaulted, 0],
             value: 0.0,
         }
     }
@@ -167,7 +168,7 @@ impl From<Line> for Answered {
 impl From<Tolerance> for Answered {
     fn from(t: Tolerance) -> Self {
         Answered {
-            counts: [t.refusal, 0, 0, 0, 0, 0, 0, 0, 0],
+            counts: [t.refusal, 0, 0, 0, 0, 0, 0, 0, 0, 0],
             value: t.value,
         }
     }

@@ -15,6 +15,11 @@ abbrev pub unless : {A : Type 0} → ℕ → Bool → Outcome A → Outcome A
 unless k true o = o
 unless k false o = refused k
 
+-- what is told of a count: how many, and 0 with a refusal
+abbrev pub told_count : Outcome ℕ → ℕ
+told_count (refused k) = 0
+told_count (found n) = n
+
 -- a refusal with one of the numbers from lo to hi, or an answer of which P holds
 abbrev pub Sound : {A : Type 0} → ℕ → ℕ → (A → Type 0) → Outcome A → Type 0
 Sound lo hi P (refused k) = (lo ≤ k) × (k ≤ hi)

@@ -12,3 +12,4 @@ pub mod Turns
 pub mod Stitching
 pub mod Welded
 pub mod Entries
+pub mod Comparisons

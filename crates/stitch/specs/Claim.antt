@@ -1,10 +1,10 @@
 -- The claim about a whole list of segments and the answer to it. Definitions only.
 -- That it holds of every list and every tolerance is `claim`, in proofs/Claim.antt.
-use Rattle.std.specs.Prelude.{◌≡◌, Bool, true, false, ◌&&◌, ◌||◌, ◌↔◌, ℕ, ◌+◌, ◌*◌, ◌%◌, ◌≤◌, ◌<◌, eqb, length, get_or}
+use Rattle.std.specs.Prelude.{◌≡◌, Bool, true, false, ◌&&◌, ◌||◌, ◌↔◌, ℕ, ◌+◌, ◌*◌, ◌-◌, ◌%◌, ◌≤◌, ◌<◌, eqb, length, get_or, Float}
 use mathlib.Core.List.{List, [], ◌∷◌, ◌++◌, flatten}
 use Rattle.vector.specs.Rows.{Seg}
 use Rattle.weld.specs.declared.Edge.{Edge}
-use Rattle.weld.specs.Weld.{same, between, listed, becomes, welded_points, listed_edges, Simple, Within, Distinct}
+use Rattle.weld.specs.Weld.{same, between, listed, becomes, welded_points, listed_edges, comparisons, Simple, Within, Distinct}
 use Rattle.stitch.specs.declared.Rule.{Rule}
 use Rattle.walk.specs.Walk.{All, edge_at, touches, Walk, walks}
 use Rattle.stitch.specs.Stitch.{loops, in_walks, counts_of, Answer}
@@ -123,3 +123,10 @@ Claim rule ss a =
     let ps = welded_points rule.tol2 ss in
     let es = listed_edges rule.tol2 ss in
     ClaimOf rule ss es (walks ps es) a
+
+-- ---- the comparisons of points, beside the claim
+
+-- n is how many comparisons of points welding the segments ss makes; of s segments it makes at most s times (2s - 1)
+pub record ComparisonsOf (tol2 : Float) (ss : List Seg) (n : ℕ) : Type 0 where
+  pub are : n ≡ comparisons tol2 ss
+  pub few : n ≤ length ss * (2 * length ss - 1)

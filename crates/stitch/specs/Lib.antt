@@ -2,3 +2,4 @@ pub mod Stitch
 pub mod Claim
 pub mod Code
 pub mod Entry
+pub mod Comparisons

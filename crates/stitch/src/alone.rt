@@ -1,24 +1,29 @@
 // Stitching alone: segments that the caller hands over.
 ghost use Rattle.std.specs.Prelude.{◌≡◌};
+ghost use Rattle.rows.specs.Outcome.{told_count};
 ghost use Rattle.stitch.specs.Entry.{Gave, buffers, lengths, room, section_told, stitch_alone};
+ghost use Rattle.stitch.specs.Comparisons.{comparisons_told, stitch_comparisons, stitched_of};
 
-use crate::{Stitched, stitch_segments};
+use crate::{StitchedSegments, stitch_segments};
 use rows::Refusal;
 
 // Stitches segments of four numbers each, at most 384: their points, the nodes of the loops, and where each loop ends
-// among them. The lent buffers stand one by one, as C lends them.
+// among them; and how many comparisons of points it took. The lent buffers stand one by one, as C lends them.
 pub fn stitch_alone(
     segments: &[f64],
     tol: f64,
     numbers: &mut [f64],
     nodes: &mut [u32],
     ends: &mut [u32],
-) -> Result<Stitched, Refusal>
+) -> Result<StitchedSegments, Refusal>
     ensures { Gave
         (stitch_alone segments.now tol
         (lengths (buffers numbers.old nodes.old ends.old)))
-        (section_told result) (buffers numbers.old nodes.old ends.old)
-        (buffers numbers.new nodes.new ends.new) }
+        (section_told (stitched_of result)) (buffers numbers.old nodes.old ends.old)
+        (buffers numbers.new nodes.new ends.new)
+        × (comparisons_told result
+        ≡ told_count (stitch_comparisons segments.now tol
+        (lengths (buffers numbers.old nodes.old ends.old)))) }
 {
     let s = segments.len() / 4;
     if segments.len() % 4 != 0 || s > 384 {

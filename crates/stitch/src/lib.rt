@@ -9,6 +9,7 @@ ghost use Rattle.vector.specs.Rows.{all_rows, all_segs};
 ghost use Rattle.walk.specs.Walk.{point_at, walks};
 ghost use Rattle.walk.specs.Code.{Below};
 ghost use Rattle.stitch.specs.Stitch.{cross2, in_walks, kind_by, plus_walk, rule_of, signed_area, turned};
+ghost use Rattle.stitch.specs.Claim.{ComparisonsOf};
 ghost use Rattle.stitch.specs.Code.{Counting, Finished, Finishing, Spare, Stitchable, Stitches, Turn, Wrote, edges_in};
 
 use walk::Graph;
@@ -30,6 +31,13 @@ pub struct Counts {
     pub in_loops: usize,
     pub flat: usize,
     pub opened: usize,
+}
+
+// What stitching segments gives: the above, and how many comparisons of points welding made.
+#[derive(Clone, Copy)]
+pub struct StitchedSegments {
+    pub stitched: Stitched,
+    pub comparisons: usize,
 }
 
 // What a walk is.
@@ -80,10 +88,11 @@ pub fn stitch_segments(
     numbers: &mut [f64],
     nodes: &mut [u32],
     ends: &mut [u32],
-) -> Stitched
+) -> StitchedSegments
     requires { Stitchable (length segments.now / 4) numbers.old nodes.old ends.old }
-    ensures { Stitches (rule_of tol) (all_segs 2 segments.now) result
-        numbers.old numbers.new nodes.old nodes.new ends.old ends.new }
+    ensures { Stitches (rule_of tol) (all_segs 2 segments.now) result.stitched
+        numbers.old numbers.new nodes.old nodes.new ends.old ends.new
+        × ComparisonsOf (rule_of tol).tol2 (all_segs 2 segments.now) result.comparisons }
 {
     let rule = Rule { tol2: tol * tol };
     if segments.len() / 4 <= 16 {
@@ -99,11 +108,12 @@ fn stitch_within<const EDGES: usize, const POINTS: usize>(
     numbers: &mut [f64],
     nodes: &mut [u32],
     ends: &mut [u32],
-) -> Stitched
+) -> StitchedSegments
     requires { Stitchable (length segments.now / 4) numbers.old nodes.old ends.old
         × (length segments.now / 4 ≤ EDGES) × (EDGES < POINTS) × (2 * EDGES ≤ POINTS) × (POINTS ≤ 768) }
-    ensures { Stitches rule (all_segs 2 segments.now) result
-        numbers.old numbers.new nodes.old nodes.new ends.old ends.new }
+    ensures { Stitches rule (all_segs 2 segments.now) result.stitched
+        numbers.old numbers.new nodes.old nodes.new ends.old ends.new
+        × ComparisonsOf rule.tol2 (all_segs 2 segments.now) result.comparisons }
 {
     let mut edges = [Edge {
         smaller: 0,
@@ -120,11 +130,14 @@ fn stitch_within<const EDGES: usize, const POINTS: usize>(
         past: &past,
     };
     let tally = stitch_edges(&graph, rule, &mut used[..w.edges], &mut walked, nodes, ends);
-    Stitched {
-        points: w.points,
-        nodes: tally.counts.in_loops,
-        loops: tally.loops,
-        counts: tally.counts,
+    StitchedSegments {
+        stitched: Stitched {
+            points: w.points,
+            nodes: tally.counts.in_loops,
+            loops: tally.loops,
+            counts: tally.counts,
+        },
+        comparisons: w.comparisons,
     }
 }
 

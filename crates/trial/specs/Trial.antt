@@ -9,6 +9,7 @@ use Rattle.clip.specs.Cell.{at_most}
 use Rattle.clip.specs.Code.{Segments}
 use Rattle.clip.specs.Defaulted.{defaulted}
 use Rattle.stitch.specs.Stitch.{rule_of}
+use Rattle.stitch.specs.Claim.{ComparisonsOf}
 use Rattle.stitch.specs.Code.{Stitches}
 use Rattle.stitch.specs.declared.Stitched.{Stitched}
 use Rattle.trial.specs.declared.Answer.{Answer}
@@ -63,6 +64,7 @@ pub record Stitching (segments : List Float) (tol : Float) (r : Answer) (points 
     : Type 0 where
   pub said : r.fitted ≡ 1
   pub stitches : Stitches (rule_of tol) (segs 2 (length segments / 4) segments) (stitched_in r) points points' nodes nodes' ends ends'
+  pub compared : ComparisonsOf (rule_of tol).tol2 (segs 2 (length segments / 4) segments) r.comparisons
 
 -- the answer where they do not: the buffers are as they were
 pub record Unstitched (r : Answer) (points points' : List Float) (nodes nodes' ends ends' : List ℕ) : Type 0 where

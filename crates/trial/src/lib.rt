@@ -11,7 +11,7 @@ ghost use Rattle.stitch.specs.Code.{Stitchable};
 ghost use Rattle.trial.specs.Trial.{ClipFits, Clips, FrameGiven, Refused, Stitching, Total, Unclipped, UnitGiven, Unstitched, deprojected, plane_in, projected, stitched_in};
 
 use clip::polygon::{Cut, plane_section_segments};
-use stitch::Stitched;
+use stitch::StitchedSegments;
 use vector::{Plane, coord, put};
 
 // The answer to lengths that do not fit.
@@ -109,12 +109,14 @@ pub struct Answer {
     pub in_loops: usize,
     pub flat: usize,
     pub opened: usize,
+    pub comparisons: usize,
 }
 
-impl From<Stitched> for Answer {
-    ghost from_gives = { λ s r. (r.fitted ≡ 1) × (stitched_in r ≡ s) };
+impl From<StitchedSegments> for Answer {
+    ghost from_gives = { λ s r. (r.fitted ≡ 1) × (stitched_in r ≡ s.stitched) × (r.comparisons ≡ s.comparisons) };
 
-    fn from(s: Stitched) -> Self {
+    fn from(stitching: StitchedSegments) -> Self {
+        let s = stitching.stitched;
         Answer {
             fitted: 1,
             points: s.points,
@@ -124,6 +126,7 @@ impl From<Stitched> for Answer {
             in_loops: s.counts.in_loops,
             flat: s.counts.flat,
             opened: s.counts.opened,
+            comparisons: stitching.comparisons,
         }
     }
 }

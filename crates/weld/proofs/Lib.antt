@@ -2,3 +2,4 @@ pub mod Edges
 pub mod Points
 pub mod Adding
 pub mod Welding
+pub mod Comparisons

@@ -52,6 +52,15 @@ module _ {p q : Vector} {tol2 : Float} {n : ℕ} {zs : List Float} {m : ℕ} {es
       (add_within (place p tol2 (rows 2 n zs)) (place q tol2 (push p tol2 (rows 2 n zs))) (take m es) n'
       (λ k h. let o = w k h in (omega arith, omega arith)) (omega arith) (omega arith))
 
+-- ---- the segments from i on
+pub segs_later : (s : ℕ) (ss : List Float) {i : ℕ} → i < s
+    → drop i (segs 2 s ss) ≡ seg (row 2 ss (2 * i)) (row 2 ss (2 * i + 1)) ∷ drop (i + 1) (segs 2 s ss)
+segs_later s ss {i} h =
+    drop-cons (segs 2 s ss) i no_seg (omega (arith, segs_length 2 s ss)) ∙ rw (segs_get_d 2 s ss i h, ← add-one i)
+
+pub segs_done : (s : ℕ) (ss : List Float) {i : ℕ} → i ≡ s → drop i (segs 2 s ss) ≡ []
+segs_done s ss {i} h = drop_of_length-le (segs 2 s ss) {i = i} (omega (arith, segs_length 2 s ss))
+
 -- ---- the loop
 -- n points and m edges so far, and the segments from i on still to be welded
 pub record Welding (tol2 : Float) (ss : List Float) (s : ℕ) (zs₀ : List Float) (room i n m : ℕ) (zs : List Float) (es : List Edge)
@@ -73,8 +82,7 @@ module _ {tol2 : Float} {ss : List Float} {s : ℕ} {zs₀ : List Float} {room i
   unfolding points_from becomes edges_from
   welding_step {n'} {zs'} {m'} {es'} h j lz le =
       let few = joined_few j in
-      let next : drop i (segs 2 s ss) ≡ seg (row 2 ss (2 * i)) (row 2 ss (2 * i + 1)) ∷ drop (i + 1) (segs 2 s ss)
-      = drop-cons (segs 2 s ss) i no_seg (omega (arith, segs_length 2 s ss)) ∙ rw (segs_get_d 2 s ss i h, ← add-one i) in
+      let next = segs_later s ss h in
       record {
         points = w.points ∙ rw (next, j.points);
         edges = w.edges ∙ rw (next, j.points, j.edges);
@@ -89,7 +97,7 @@ module _ {tol2 : Float} {ss : List Float} {s : ℕ} {zs₀ : List Float} {room i
   pub welding_end : i ≡ s → Welds tol2 ss s zs₀ n m zs es
   unfolding points_from becomes edges_from
   welding_end h =
-      let done : drop i (segs 2 s ss) ≡ [] = drop_of_length-le (segs 2 s ss) {i = i} (omega (arith, segs_length 2 s ss)) in
+      let done = segs_done s ss h in
       record {
         points = sym (w.points ∙ rw done);
         rest = w.rest;

@@ -1,5 +1,5 @@
 -- Welding: the points that the ends of segments become, and the edges between them. Definitions only.
-use Rattle.std.specs.Prelude.{◌≡◌, List, [], ◌∷◌, ◌++◌, Bool, ◌&&◌, ◌||◌, cond, Option, is_some, unwrap_or, ℕ, ◌<◌, min, max, eqb, length, get_or, Float}
+use Rattle.std.specs.Prelude.{◌≡◌, List, [], ◌∷◌, ◌++◌, Bool, ◌&&◌, ◌||◌, cond, Option, is_some, unwrap_or, ℕ, ◌+◌, ◌<◌, min, max, eqb, length, get_or, Float}
 use Rattle.std.specs.List.{list_any, position_from}
 use Rattle.std.specs.Float.Ieee.{le, add, sub, mul}
 use Rattle.vector.specs.Vector.{Vector, dist2}
@@ -55,6 +55,22 @@ unfolding push place
 becomes tol2 [] qs = []
 becomes tol2 (seg p q ∷ ss) qs = (place p tol2 qs, place q tol2 (push p tol2 qs)) ∷ becomes tol2 ss (push q tol2 (push p tol2 qs))
 
+-- How many points p is compared with: those up to and with the first near it, or all of them.
+unfoldable pub compared : Vector → Float → List Vector → ℕ
+unfolding near
+compared p tol2 [] = 0
+compared p tol2 (q ∷ qs) = 1 + cond (near p tol2 q) 0 (compared p tol2 qs)
+
+-- and both ends of a segment: the second is compared after the first has been added
+abbrev pub compared_ends : Float → Vector → Vector → List Vector → ℕ
+compared_ends tol2 p q qs = compared p tol2 qs + compared q tol2 (push p tol2 qs)
+
+-- all ends, where qs are the points before
+unfoldable pub comparisons_from : Float → List Seg → List Vector → ℕ
+unfolding push compared
+comparisons_from tol2 [] qs = 0
+comparisons_from tol2 (seg p q ∷ ss) qs = compared_ends tol2 p q qs + comparisons_from tol2 ss (push q tol2 (push p tol2 qs))
+
 -- ends that weld together give no edge; an edge is listed once
 unfoldable pub add_edge : ℕ → ℕ → List Edge → List Edge
 unfolding listed
@@ -72,6 +88,10 @@ welded_points tol2 ss = points_from tol2 ss []
 
 abbrev pub listed_edges : Float → List Seg → List Edge
 listed_edges tol2 ss = edges_from (becomes tol2 ss []) []
+
+-- how many comparisons of points that takes
+abbrev pub comparisons : Float → List Seg → ℕ
+comparisons tol2 ss = comparisons_from tol2 ss []
 
 -- ---- what holds of the listed edges
 

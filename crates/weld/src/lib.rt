@@ -1,27 +1,30 @@
 // Welding: the points that the ends of segments become, and the edges between them.
 #![tactic(auto)]
 
-ghost use Rattle.std.specs.Prelude.{◌≡◌, ◌+◌, ◌*◌, ◌/◌, ◌^◌, ◌≤◌, ◌<◌, ◌||◌, cond, eqb, length, take};
-ghost use Rattle.vector.specs.Rows.{all_rows, row};
-ghost use Rattle.weld.specs.Weld.{Within, between, find, listed};
+ghost use Rattle.std.specs.Prelude.{◌≡◌, ◌+◌, ◌*◌, ◌/◌, ◌^◌, ◌≤◌, ◌<◌, ◌||◌, cond, eqb, length, min, take};
+ghost use Rattle.vector.specs.Rows.{all_rows, row, rows, segs};
+ghost use Rattle.weld.specs.Weld.{Within, between, compared_ends, comparisons, find, listed};
 ghost use Rattle.weld.specs.Code.{Added, Became, SegmentWelded, Weldable, Welds};
 
-// How many points and edges there are.
+// How many points and edges there are, and how many comparisons of points were made.
 #[derive(Clone, Copy)]
 pub struct Welded {
     pub points: usize,
     pub edges: usize,
+    pub comparisons: usize,
 }
 
 // Welds segments of four numbers each: their ends become points, and the edges between them are listed.
 pub fn weld(segments: &[f64], tol2: f64, points: &mut [f64], edges: &mut [Edge]) -> Welded
     requires { Weldable (length segments.now / 4) points.old edges.old }
     ensures { Welds tol2 segments.now (length segments.now / 4) points.old result.points result.edges
-        points.new edges.new }
+        points.new edges.new
+        × (result.comparisons ≡ comparisons tol2 (segs 2 (length segments.now / 4) segments.now)) }
 {
     let mut welded = Welded {
         points: 0,
         edges: 0,
+        comparisons: 0,
     };
     for i in 0..segments.len() / 4 {
         weld_segment(segments, i, tol2, points, edges, &mut welded);
@@ -29,7 +32,8 @@ pub fn weld(segments: &[f64], tol2: f64, points: &mut [f64], edges: &mut [Edge])
     welded
 }
 
-// Both ends of segment i become points; the edge between them is listed if new.
+// Both ends of segment i become points; the edge between them is listed if new. The comparisons are worked out from the points that the
+// ends became, since counting them in `find` takes longer.
 fn weld_segment(
     segments: &[f64],
     i: usize,
@@ -40,17 +44,30 @@ fn weld_segment(
 )
     requires { (4 * i + 3 < length segments.now) × (2 * welded.old.points + 3 < length points.old)
         × (welded.old.points + 1 < 2 ^ 32) × (welded.old.edges < length edges.old)
-        × Within (take welded.old.edges edges.old) welded.old.points }
+        × Within (take welded.old.edges edges.old) welded.old.points
+        × (welded.old.comparisons < 2 ^ 32) }
     ensures { SegmentWelded (row 2 segments.now (2 * i)) (row 2 segments.now (2 * i + 1)) tol2
         welded.old.points points.old welded.old.edges edges.old welded.new.points points.new
-        welded.new.edges edges.new }
+        welded.new.edges edges.new
+        × (welded.new.comparisons ≡ welded.old.comparisons
+        + compared_ends tol2 (row 2 segments.now (2 * i)) (row 2 segments.now (2 * i + 1))
+        (rows 2 welded.old.points points.old)) }
 {
     let n = welded.points;
     let p = vector::coord(segments, 2 * i);
     let q = vector::coord(segments, 2 * i + 1);
     let a = push_coord(points, &mut welded.points, p, tol2);
+    let m = welded.points;
     let b = push_coord(points, &mut welded.points, q, tol2);
+    welded.comparisons += compared(a, n) + compared(b, m);
     add_edge(edges, &mut welded.edges, n, a, b);
+}
+
+// How many of n points an end was compared with that became point k: those up to and with k, or all of them if it is a new one.
+fn compared(k: u32, n: usize) -> usize
+    ensures { result ≡ min (k + 1) n }
+{
+    (k as usize + 1).min(n)
 }
 
 // Adds p to the n points unless one is near already. Gives the number of the point that it is. The points grow in place in the numbers

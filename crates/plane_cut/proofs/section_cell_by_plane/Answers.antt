@@ -3,14 +3,13 @@
 use mathlib.Core.Path.{◌∙◌, ap, sym}
 use native.Mathlib.Omega.{arith}
 use Rattle.std.proofs.lemmas.Result.{err_from_is_err_and}
-use Rattle.rows.proofs.Outcomes.{test_failed}
+use Rattle.rows.proofs.Outcomes.{test_failed, none_counted}
 use Rattle.rows.specs.Refusals.{outcome_of}
 use Rattle.stitch.specs.Entry.{buffers, lengths}
 use Rattle.stitch.proofs.Entries.{gave_refusal}
 use Rattle.cuts.specs.Cuts.{place_in}
 use Rattle.cuts.specs.Code.{through_of}
 use Rattle.cuts.specs.declared.Way.TheVariants.{Normal}
-use Rattle.cuts.proofs.Answers.{none_counted}
 use Rattle.cuts.proofs.Cutting.{at_work, cell_refused, corners_few, counted, is_accepted, place_refused}
 use Rattle.plane_cut.specs.Defaulted.{defaulted_in}
 use Rattle.plane_cut.specs.PlaneCut.{section_in}

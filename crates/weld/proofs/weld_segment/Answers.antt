@@ -1,5 +1,6 @@
 -- `weld::weld_segment` meets its contract. Assumes nothing.
 use native.Mathlib.Omega.{arith}
+use Rattle.weld.proofs.Comparisons.{compared_two}
 use Rattle.weld.proofs.Points.{became_few}
 use Rattle.weld.proofs.Welding.{joined}
 use Rattle.weld.proofs.weld_segment.Goals as goal
@@ -11,4 +12,7 @@ push_coord-b-requires c =
 
 pub returns : goal.returns
 returns c =
-    rw (← c.coord-p.ensures, ← c.coord-q.ensures) (joined c.push_coord-a.ensures c.push_coord-b.ensures c.add_edge.ensures)
+    rw (← c.coord-p.ensures, ← c.coord-q.ensures) (
+      joined c.push_coord-a.ensures c.push_coord-b.ensures c.add_edge.ensures,
+      omega (arith, compared_two _ c.push_coord-a.ensures c.push_coord-b.ensures.number, c.compared.ensures, c.compared-2.ensures),
+    )
