@@ -10,7 +10,7 @@ use Rattle.vector.specs.Rows.{Seg}
 use Rattle.clip.specs.Code.{Segments}
 use Rattle.clip.specs.declared.Found.{Found}
 use Rattle.clip.proofs.Written.{segments_count}
-use Rattle.rows.specs.Outcome.{Outcome, refused, found, unless, told_count}
+use Rattle.rows.specs.Outcome.{Outcome, found, unless, told_count}
 use Rattle.rows.proofs.Outcomes.{test_passed, count_gave}
 use Rattle.cell.specs.Read.{Polygon, Cell, polygons_of, corners_of, Accepted}
 use Rattle.cuts.specs.Cuts.{cut_cell}

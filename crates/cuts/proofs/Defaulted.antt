@@ -5,7 +5,7 @@ use Prim.Native.Nat.{ℕ, ◌≤◌}
 use native.Mathlib.Omega.{arith}
 use lib.Ieee.{Float}
 use lib.ListN.{length}
-use Rattle.rows.specs.Outcome.{Outcome, refused, found, Sound, told_count}
+use Rattle.rows.specs.Outcome.{found}
 use Rattle.vector.specs.declared.Plane.{Plane}
 use Rattle.cell.specs.Read.{Polygon, Cell, corners_of, space_cell}
 use Rattle.clip.specs.Cell.{cut_by}

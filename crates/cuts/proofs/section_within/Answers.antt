@@ -21,8 +21,8 @@ shared_whole_as_front-segments d c =
     let l = few (cell_of k.cell) f.plane f.tol k.accepted k.count c.gather_cell-found.ensures.segments in
     (omega (arith, l.0, c.requires.2), omega (arith, c.requires.1))
 
-pub stitch_segments-stitched-requires : goal.stitch_segments-stitched-requires
-stitch_segments-stitched-requires d c =
+pub stitch_segments-stitching-requires : goal.stitch_segments-stitching-requires
+stitch_segments-stitching-requires d c =
     let k = c.args.cell.now in
     let f = c.args.cutting.now in
     let g = c.gather_cell-found in
@@ -37,6 +37,7 @@ returns d c =
     let l = few (cell_of k.cell) f.plane f.tol k.accepted k.count c.gather_cell-found.ensures.segments in
     let e = slice_segs 2 s c.gather_cell-found.new.out {m = 4 * s} (omega arith) (omega (arith, l.0, c.requires.2, (rw length-replicate at c.gather_cell-found.auto.out))) (omega arith) in
     record {
-      stitched = rw (← c.gather_cell-found.ensures.segments.are, ← e) c.stitch_segments-stitched.ensures.gave;
+      stitched = rw (← c.gather_cell-found.ensures.segments.are, ← e) c.stitch_segments-stitching.ensures.0.gave;
       counted = c.gather_cell-found.ensures.counted;
+      compared = rw (← c.gather_cell-found.ensures.segments.are, ← e) c.stitch_segments-stitching.ensures.1;
     }

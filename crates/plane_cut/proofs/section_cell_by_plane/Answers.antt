@@ -11,6 +11,7 @@ use Rattle.cuts.specs.Cuts.{place_in}
 use Rattle.cuts.specs.Code.{through_of}
 use Rattle.cuts.specs.declared.Way.TheVariants.{Normal}
 use Rattle.cuts.proofs.Cutting.{at_work, cell_refused, corners_few, counted, is_accepted, place_refused}
+use Rattle.plane_cut.specs.Comparisons.{comparisons_in}
 use Rattle.plane_cut.specs.Defaulted.{defaulted_in}
 use Rattle.plane_cut.specs.PlaneCut.{section_in}
 use Rattle.plane_cut.proofs.section_cell_by_plane.Goals as goal
@@ -24,6 +25,7 @@ returns-in_err-accepted c =
     rw (p.1, p.2) (
       gave_refusal _ (cell_refused by (section_in g.tol l) c.in_err-accepted.ensures),
       none_counted (cell_refused by (defaulted_in g.tol l) c.in_err-accepted.ensures),
+      none_counted (cell_refused by (comparisons_in g.tol l) c.in_err-accepted.ensures),
     )
 
 pub returns-in_err-plane : goal.returns-in_err-plane
@@ -35,8 +37,11 @@ returns-in_err-plane c =
     let a = is_accepted k.accepted k.ensures in
     let m = counted k.accepted k.ensures in
     let no = sym c.in_err-plane.ensures in
-    rw (p.1, p.2)
-    (gave_refusal _ (place_refused a m (section_in g.tol l) no), none_counted (place_refused a m (defaulted_in g.tol l) no))
+    rw (p.1, p.2) (
+      gave_refusal _ (place_refused a m (section_in g.tol l) no),
+      none_counted (place_refused a m (defaulted_in g.tol l) no),
+      none_counted (place_refused a m (comparisons_in g.tol l) no),
+    )
 
 pub overflow_mul-corners : goal.overflow_mul-corners
 overflow_mul-corners c = omega (arith, corners_few c.in_ok-accepted.accepted)
@@ -55,4 +60,5 @@ returns-then-not-room c =
     let short = sym c.room.ensures ∙ c.if-not-room.true in (
       gave_refusal _ (at_work a m (section_in g.tol l) on (test_failed 7 _ _ short)),
       none_counted (at_work a m (defaulted_in g.tol l) on (test_failed 7 _ _ short)),
+      none_counted (at_work a m (comparisons_in g.tol l) on (test_failed 7 _ _ short)),
     )
