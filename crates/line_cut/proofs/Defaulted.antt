@@ -51,7 +51,7 @@ defaulted_on_line_bound f tol ps =
 pub line_defaulted_bound : LineDefaultedBound
 line_defaulted_bound k g tol a =
     let P : ℕ → Type 0 = λ n. (2 * n ≤ 5 * corners_of (space_cell k)) × (n ≤ 640) in
-    told_has P (line_defaulted k g tol a) (omega arith, omega arith)
+    told_has 1 7 P (line_defaulted k g tol a) (omega arith, omega arith)
     (space_cut_sound P k Direction g (defaulted_in tol a)
     (λ ps r f e.
     let m : length (flatten ps) ≡ corners_of (space_cell k) = ap corners_of (sym r) in

@@ -20,7 +20,7 @@ use Rattle.plane_cell.proofs.Polygons.{few_defaulted}
 pub plane_cell_defaulted_bound : PlaneCellDefaultedBound
 plane_cell_defaulted_bound way k g tol a =
     let P : ℕ → Type 0 = λ n. (n ≤ corners_of (plane_cell k)) × (n ≤ 256) in
-    told_has P (plane_cell_defaulted way k g tol a) (omega arith, omega arith)
+    told_has 1 7 P (plane_cell_defaulted way k g tol a) (omega arith, omega arith)
     (cut_sound P (λ l. Unit {0}) 2 (typed_in_plane (plane_type k.cell_type)) k.conn k.coords (line_through way g tol) (defaulted_in a)
     (line_placed way g tol)
     (λ ps r l _.

@@ -4,6 +4,7 @@ use Rattle.cell.specs.Read.{cell}
 use Rattle.stitch.specs.Entry.{buffers, lengths}
 use Rattle.cuts.specs.Cuts.{through}
 use Rattle.plane_cut.proofs.Claims.{plane_small}
+use Rattle.plane_cut.proofs.Comparisons.{plane_few}
 use Rattle.plane_cut.proofs.Defaulted.{plane_defaulted_bound}
 use Rattle.cicelybeam.proofs.Exports.{told_small}
 use Rattle.cicelybeam.proofs.cicelybeam_plane.Goals as goal
@@ -17,4 +18,5 @@ told_section-requires c =
     let told = c.section_cell_by_plane.ensures in (
       told_small told.0 (plane_small k by g.tol room),
       omega (arith, told.1, plane_defaulted_bound k by g.tol room),
+      omega (arith, told.2, plane_few k by g.tol room),
     )
