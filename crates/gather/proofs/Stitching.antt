@@ -18,7 +18,9 @@ use Rattle.cell.specs.Read.{Polygon, Cell, corners_of, space_cell}
 use Rattle.clip.specs.Clip.{Cut, plane_section_segments}
 use Rattle.clip.specs.Cell.{cell_segments, cut_by, project_seg}
 use Rattle.walk.specs.Walk.{All}
-use Rattle.stitch.specs.Stitch.{Answer, stitched}
+use Rattle.weld.specs.Weld.{comparisons}
+use Rattle.stitch.specs.Stitch.{Answer, rule_of, stitched}
+use Rattle.stitch.specs.Comparisons.{stitch_comparisons}
 use Rattle.stitch.specs.Entry.{Buffers, Lengths, lengths, room, Told, told, told_answer, Gave, answer_read, stitch_alone}
 use Rattle.stitch.proofs.Entries.{fits, of_answer}
 use Rattle.cuts.specs.Cuts.{Through, cut_cell, place_in, section_of, segments_on}
@@ -27,6 +29,7 @@ use Rattle.cuts.specs.declared.Way.TheVariants.{Normal}
 use Rattle.cuts.proofs.Sizes.{all_join, found_few, segments_most}
 use Rattle.plane_cut.specs.PlaneCut.{plane_cut, section_in}
 use Rattle.gather.specs.Gather.{Gathered, PlaneByGathering, ReadAlike, StitchGathered, gather_cut, gather_in}
+use Rattle.gather.specs.Comparisons.{PlaneComparedByGathering}
 use Rattle.gather.proofs.Claims.{gather_sound}
 
 -- ---- segments as numbers, read back
@@ -77,13 +80,27 @@ module _ (tol : Float) (l : Lengths) (ss : List Seg) (w : All (Wide 2) ss) (few 
   as_many : n ≡ length ss
   as_many = omega (arith, flat_length 2 ss w)
 
+  read_flat : segs 2 n (flat ss) ≡ ss
+  read_flat = ap (λ i. segs 2 i (flat ss)) as_many ∙ segs_flat 2 ss w
+
   stitch_flat : stitch_alone (flat ss) tol l
       ≡ unless 7 (room (4 * length ss) (length ss) (length ss / 3) l) (found (stitched tol ss))
   stitch_flat =
       test_passed 8 (eqb (length (flat ss) % 4) 0 && leb n 384) _
       (simp (eq-eqb (length (flat ss) % 4) 0 (omega (arith, flat_length 2 ss w)), le-leb n 384 (omega (arith, as_many))))
-      ∙ ap (λ i. unless 7 (room (4 * i) i (i / 3) l) (found (stitched tol (segs 2 i (flat ss))))) as_many
-      ∙ ap (λ k. unless 7 (room (4 * length ss) (length ss) (length ss / 3) l) (found (stitched tol k))) (segs_flat 2 ss w)
+      ∙ ap (λ i. unless 7 (room (4 * i) i (i / 3) l) (found (stitched tol (segs 2 n (flat ss))))) as_many
+      ∙ ap (λ k. unless 7 (room (4 * length ss) (length ss) (length ss / 3) l) (found (stitched tol k))) read_flat
+
+  compare_flat : stitch_comparisons (flat ss) tol l
+      ≡ unless 7 (room (4 * length ss) (length ss) (length ss / 3) l) (found (comparisons (rule_of tol).tol2 ss))
+  compare_flat =
+      ap (λ o. and_then o (λ a. found (comparisons (rule_of tol).tol2 (segs 2 n (flat ss))))) stitch_flat
+      ∙ if_room (room (4 * length ss) (length ss) (length ss / 3) l) _ _
+      ∙ ap (λ k. unless 7 (room (4 * length ss) (length ss) (length ss / 3) l) (found (comparisons (rule_of tol).tol2 k))) read_flat
+    where
+      if_room : {A B : Type 0} (b : Bool) (x : A) (y : B) → and_then (unless 7 b (found x)) (λ a. found y) ≡ unless 7 b (found y)
+      if_room true x y = refl
+      if_room false x y = refl
 
 -- ---- the plane cut by gathering
 
@@ -94,33 +111,43 @@ steps true true s x next h = sym (h refl)
 steps true false s x next h = refl
 steps false b s x next h = refl
 
-module _ (tol : Float) (l : Lengths) where
-  -- what the plane cut makes of the segments, of m corners
-  abbrev onward : ℕ → List Seg → Outcome Answer
-  onward m ss = unless 7 (room (6 * m) (3 * m / 2) (m / 2) l) (stitch_alone (flat ss) tol l)
+-- Of what is made of segments by itself, alike of these numbers by an entry that is lent buffers as stitching alone is.
+module _ {A : Type 0} (tol : Float) (l : Lengths) (made : List Seg → A) (alone : List Float → Outcome A)
+    (of_flat : (ss : List Seg) → All (Wide 2) ss → length ss ≤ 384
+    → alone (flat ss) ≡ unless 7 (room (4 * length ss) (length ss) (length ss / 3) l) (found (made ss))) where
+  -- what the plane cut makes of m corners, and of the segments
+  abbrev made_in : ℕ → List Polygon → Plane → Outcome A
+  made_in m ps f = unless 7 (room (6 * m) (3 * m / 2) (m / 2) l) (found (made (segments_on f tol ps)))
+
+  abbrev onward : ℕ → List Seg → Outcome A
+  onward m ss = unless 7 (room (6 * m) (3 * m / 2) (m / 2) l) (alone (flat ss))
 
   on_plane : (ps : List Polygon) → length (flatten ps) ≤ 256 → (f : Plane) → let m = length (flatten ps) in
-      section_in tol l m ps f ≡ and_then (gather_in tol l.numbers m ps f) (onward m)
+      made_in m ps f ≡ and_then (gather_in tol l.numbers m ps f) (onward m)
   on_plane ps few f =
       let m = length (flatten ps) in
       let ss = segments_on f tol ps in
       let s = segments_most f tol ps in
-      steps (leb (6 * m) l.numbers) (leb (3 * m / 2) l.nodes && leb (m / 2) l.ends) ss (section_of f tol ps)
-      (λ k. stitch_alone (flat k) tol l)
+      steps (leb (6 * m) l.numbers) (leb (3 * m / 2) l.nodes && leb (m / 2) l.ends) ss (made ss) (λ k. alone (flat k))
       (λ e.
       let r = fits (6 * m) (3 * m / 2) (m / 2) l e in
-      stitch_flat tol l ss (wide (cut_by f tol) f ps) (omega (arith, s))
-      ∙ test_passed 7 (room (4 * length ss) (length ss) (length ss / 3) l) (found (stitched tol ss))
+      of_flat ss (wide (cut_by f tol) f ps) (omega (arith, s))
+      ∙ test_passed 7 (room (4 * length ss) (length ss) (length ss / 3) l) (found (made ss))
       (has_room (4 * length ss) (length ss) (length ss / 3) l (omega (arith, s, r.0)) (omega (arith, s, r.1)) (omega (arith, s, r.2))))
 
   by_cell : (o : Outcome (List Polygon)) → ((ps : List Polygon) → o ≡ found ps → length (flatten ps) ≤ 256) → (p : Outcome Plane)
-      → cut_cell o p (section_in tol l) ≡ and_then (cut_cell o p (gather_in tol l.numbers)) (onward (corners_of o))
+      → cut_cell o p made_in ≡ and_then (cut_cell o p (gather_in tol l.numbers)) (onward (corners_of o))
   by_cell (refused j) few p = refl
   by_cell (found ps) few (refused j) = refl
   by_cell (found ps) few (found f) = on_plane ps (few ps refl) f
 
 pub plane_by_gathering : PlaneByGathering
-plane_by_gathering k g tol l = by_cell tol l (space_cell k) (found_few k) (place_in Normal g)
+plane_by_gathering k g tol l =
+    by_cell tol l (stitched tol) (λ xs. stitch_alone xs tol l) (stitch_flat tol l) (space_cell k) (found_few k) (place_in Normal g)
+
+pub plane_compared_by_gathering : PlaneComparedByGathering
+plane_compared_by_gathering k g tol l =
+    by_cell tol l (comparisons (rule_of tol).tol2) (λ xs. stitch_comparisons xs tol l) (compare_flat tol l) (space_cell k) (found_few k) (place_in Normal g)
 
 -- ---- segments that were gathered
 

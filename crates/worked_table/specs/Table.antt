@@ -1,14 +1,14 @@
 -- The starred cases of docs/RULES.md as one table: what is asked, and what is answered there. Definitions only; that the definitions of the
 -- crates answer so is `worked`, in proofs/Table.antt.
 use Rattle.std.specs.Prelude.{◌≡◌, true, false, cond, ℕ, ◌/◌, pos, negsuc, length, Float}
-use mathlib.Core.List.{List, [], ◌∷◌, flatten, map}
+use mathlib.Core.List.{List, [], ◌∷◌, ◌++◌, flatten, map}
 use Rattle.std.specs.Float.{nan, inf, fin, binary64}
 use Rattle.std.specs.Float.Ieee.{mul}
 use Rattle.root.specs.Root.{sqrt_of}
 use Rattle.vector.specs.Number.{f0, f1, minus_one, half, least}
 use Rattle.vector.specs.Vector.{Vector, at, dot_from, least_aligned_axis, unit}
 use Rattle.vector.specs.Rows.{Seg, seg, segs}
-use Rattle.rows.specs.Outcome.{Outcome, refused, found}
+use Rattle.rows.specs.Outcome.{Outcome, refused, found, told_count}
 use Rattle.vector.specs.Tolerance.{tolerance, tolerance_of}
 use Rattle.cell.specs.Types.{space_type}
 use Rattle.cell.specs.Faces.{Face, faces_of, kept, separator, stretches}
@@ -17,12 +17,14 @@ use Rattle.cell.specs.Claims.{faces_as}
 use Rattle.cell.specs.declared.types.Shape.TheVariants.{Phed}
 use Rattle.clip.specs.Clip.{Cut, plane_section_segments}
 use Rattle.clip.specs.Defaulted.{defaulted}
-use Rattle.weld.specs.Weld.{becomes, edges_from, listed_edges, points_from, welded_points}
+use Rattle.weld.specs.Weld.{becomes, comparisons_from, edges_from, listed_edges, points_from, welded_points}
 use Rattle.walk.specs.Walk.{Walk, walks, walks_from}
 use Rattle.stitch.specs.Stitch.{Answer, area2_from, f2, signed_area, stitched_within}
 use Rattle.stitch.specs.Entry.{stitch_alone}
+use Rattle.stitch.specs.Comparisons.{stitch_comparisons}
 use Rattle.cuts.specs.Cuts.{through}
 use Rattle.plane_cut.specs.PlaneCut.{plane_cut}
+use Rattle.plane_cut.specs.Comparisons.{plane_comparisons}
 use Rattle.gather.specs.Gather.{face_alone, gather_cut}
 
 -- ---- what is asked, and how it is answered
@@ -38,6 +40,10 @@ pub data Asked : Type 0 where
   crossings : Float → Float → Float → Asked
   -- stitching alone, with a tolerance
   stitch : List Float → Float → Asked
+  -- how many comparisons of points stitching alone makes, with a tolerance
+  compare : List Float → Float → Asked
+  -- and the plane cut of a cell, as above
+  compare_plane : ℕ → List ℕ → List Float → List Float → List Float → Asked
   -- the tolerance of coordinates in space
   tolerance_in : List Float → Asked
   -- a root
@@ -77,7 +83,7 @@ all_shown xs tol =
 
 -- by the definitions, in buffers of the sizes that docs/RULES.md gives for 24 face corners, or for the segments
 unfoldable pub answered : Asked → Answered
-unfolding flatten stretches kept space_type read_as are_rows least_aligned_axis unit dot_from tolerance plane_section_segments defaulted mul stitched_within points_from becomes edges_from walks_from area2_from
+unfolding flatten stretches kept space_type read_as are_rows least_aligned_axis unit dot_from tolerance plane_section_segments defaulted mul stitched_within points_from becomes edges_from comparisons_from walks_from area2_from
 answered (faces c) = positions (faces_of Phed c)
 answered (plane t c xs o n) = let r = plane_cut (cell t c xs) (through o n) f0 (record { numbers = 144; nodes = 36; ends = 12 }) in sectioned r (areas r)
 answered (gather t c xs o n) =
@@ -90,6 +96,11 @@ answered (crossings tol a b) =
 answered (stitch xs tol) =
     let s = length xs / 4 in
     stitched (stitch_alone xs tol (record { numbers = length xs; nodes = s; ends = s / 3 })) (all_shown xs tol)
+answered (compare xs tol) =
+    let s = length xs / 4 in
+    counted (told_count (stitch_comparisons xs tol (record { numbers = length xs; nodes = s; ends = s / 3 })))
+answered (compare_plane t c xs o n) =
+    counted (told_count (plane_comparisons (cell t c xs) (through o n) f0 (record { numbers = 144; nodes = 36; ends = 12 })))
 answered (tolerance_in xs) = number (tolerance_of 3 xs)
 answered (root x) = number (found (sqrt_of binary64 x))
 
@@ -117,6 +128,12 @@ quarter = fin false 1 (negsuc 1)
 
 abbrev three_quarters : Float
 three_quarters = fin false 3 (negsuc 1)
+
+abbrev f3 : Float
+f3 = fin false 3 (pos 0)
+
+abbrev f4 : Float
+f4 = fin false 1 (pos 2)
 
 abbrev minus_two : Float
 minus_two = fin true 1 (pos 1)
@@ -210,6 +227,13 @@ table =
     ∷ case (crossings f0 (inf false) (inf true)) (counted 0)
     ∷ case (crossings minus_one f1 nan) (counted 2)
     ∷ case (crossings nan tiny minus_tiny) (counted 0)
+    -- 17
+    ∷ case (compare (along triangle) f0) (counted 9)
+    ∷ case (compare (along triangle) nan) (counted 15)
+    ∷ case (compare (along triangle) (inf false)) (counted 5)
+    ∷ case (compare (along (O ∷ O ∷ [])) f0) (counted 1)
+    ∷ case (compare (along (O ∷ pt f3 f0 ∷ []) ++ along (pt f2 f0 ∷ pt f0 f4 ∷ [])) f2) (counted 4)
+    ∷ case (compare_plane 14 brick cube (level half) up) (counted 16)
     ∷ []
 
 -- the definitions answer each case as docs/RULES.md does
