@@ -11,7 +11,7 @@ use Rattle.rows.proofs.Outcomes.{sound_then, told_then}
 use Rattle.vector.specs.Rows.{Seg, segs}
 use Rattle.vector.proofs.Rows.{segs_length}
 use Rattle.weld.specs.Weld.{comparisons}
-use Rattle.weld.proofs.Comparisons.{comparisons_few, most_compared, most_of_384, none_near_nan}
+use Rattle.weld.proofs.Comparisons.{comparisons_few, comparisons_some, most_compared, most_of_384, none_near_nan}
 use Rattle.stitch.specs.Stitch.{rule_of}
 use Rattle.stitch.specs.Claim.{ComparisonsOf}
 use Rattle.stitch.specs.Comparisons.{FewCompared, NanCompared, StitchCompared, stitch_comparisons}
@@ -19,7 +19,7 @@ use Rattle.stitch.specs.Entry.{Lengths, StitchSection, stitch_alone}
 use Rattle.stitch.proofs.Entries.{stitch_sound}
 
 pub comparisons_of : (tol2 : Float) (ss : List Seg) {n : ℕ} → n ≡ comparisons tol2 ss → ComparisonsOf tol2 ss n
-comparisons_of tol2 ss e = rw e (record { are = refl; few = comparisons_few tol2 ss })
+comparisons_of tol2 ss e = rw e (record { are = refl; few = comparisons_few tol2 ss; some = comparisons_some tol2 ss })
 
 pub few_compared : {tol2 : Float} {ss : List Seg} {n : ℕ} → ComparisonsOf tol2 ss n → length ss ≤ 384 → n ≤ 294528
 few_compared {ss = ss} c h = most_of_384 _ (length ss) c.few h

@@ -126,7 +126,9 @@ Claim rule ss a =
 
 -- ---- the comparisons of points, beside the claim
 
--- n is how many comparisons of points welding the segments ss makes; of s segments it makes at most s times (2s - 1)
+-- n is how many comparisons of points welding the segments ss makes: of s segments at most s times (2s - 1), and one at least of each
+-- end but the first
 pub record ComparisonsOf (tol2 : Float) (ss : List Seg) (n : ℕ) : Type 0 where
   pub are : n ≡ comparisons tol2 ss
   pub few : n ≤ length ss * (2 * length ss - 1)
+  pub some : 2 * length ss - 1 ≤ n

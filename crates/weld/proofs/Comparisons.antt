@@ -46,11 +46,13 @@ compared_most tol2 (seg p q ∷ ss) qs =
     let a = pushes p tol2 qs in
     let b = pushes q tol2 (push p tol2 qs) in
     let l : length (push q tol2 (push p tol2 qs)) ≤ length qs + 2 = omega arith in
-    omega (arith,
+    omega (
+      arith,
       compared_most tol2 ss (push q tol2 (push p tol2 qs)),
       compared_few p tol2 qs,
       compared_few q tol2 (push p tol2 qs),
-      mul-le-mul_left (length ss) l)
+      mul-le-mul_left (length ss) l,
+    )
 
 without : (c k : ℕ) → c + k ≤ 2 * (k * k) → c ≤ k * (2 * k - 1)
 without c zero h = omega arith
@@ -63,7 +65,33 @@ comparisons_few tol2 ss = without (comparisons tol2 ss) (length ss) (omega (arit
 pub most_of_384 : (c s : ℕ) → c ≤ s * (2 * s - 1) → s ≤ 384 → c ≤ 294528
 most_of_384 c s b h = let e : 2 * s - 1 ≤ 767 = omega arith in omega (arith, mul-le-mul h e)
 
--- and as many where no point is near another
+-- and at least one of each end but the first
+compared_some : (tol2 : Float) (ss : List Seg) (qs : List Vector) → 1 ≤ length qs → 2 * length ss ≤ comparisons_from tol2 ss qs
+unfolding comparisons_from
+compared_some tol2 [] qs h = omega arith
+compared_some tol2 (seg p q ∷ ss) qs h =
+    let a = pushes p tol2 qs in
+    let b = pushes q tol2 (push p tol2 qs) in
+    omega (
+      arith,
+      compared_some tol2 ss (push q tol2 (push p tol2 qs)) (omega arith),
+      compared_by p tol2 qs,
+      compared_by q tol2 (push p tol2 qs),
+    )
+
+pub comparisons_some : (tol2 : Float) (ss : List Seg) → 2 * length ss - 1 ≤ comparisons tol2 ss
+unfolding comparisons_from
+comparisons_some tol2 [] = omega arith
+comparisons_some tol2 (seg p q ∷ ss) =
+    let a = pushes p tol2 [] in
+    let b = pushes q tol2 (push p tol2 []) in
+    omega (
+      arith,
+      compared_some tol2 ss (push q tol2 (push p tol2 [])) (omega arith),
+      compared_by q tol2 (push p tol2 []),
+    )
+
+-- as many as there can be, where no point is near another
 module _ (tol2 : Float) (apart : (p q : Vector) → near p tol2 q ≡ false) where
   compared_all : (p : Vector) (qs : List Vector) → compared p tol2 qs ≡ length qs
   unfolding compared

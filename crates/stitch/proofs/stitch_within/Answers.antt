@@ -13,7 +13,8 @@ stitch_edges-tally-requires g c = (
 )
 
 pub returns : goal.returns
-returns g c =
-    (stitches c.args.rule c.weld-w.ensures.0 c.requires.0 (omega arith) c.weld-w.auto.points c.stitch_edges-tally.result _ _
-    c.stitch_edges-tally.ensures,
-    comparisons_of _ _ c.weld-w.ensures.1)
+returns g c = (
+  stitches c.args.rule c.weld-w.ensures.0 c.requires.0 (omega arith) c.weld-w.auto.points c.stitch_edges-tally.result _ _
+      c.stitch_edges-tally.ensures,
+  comparisons_of _ _ c.weld-w.ensures.1,
+)

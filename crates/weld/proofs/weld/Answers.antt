@@ -17,9 +17,10 @@ weld_segment-requires c =
 
 pub loop-i-preserved : goal.loop-i-preserved
 loop-i-preserved c =
-    let w = c.weld_segment in
-    (welding_step c.loop-i.invariant.0 c.loop-i-test.true w.ensures.0 w.auto.points w.auto.edges,
-    comparing_step c.loop-i.invariant.1 c.loop-i-test.true w.ensures.0 w.ensures.1)
+    let w = c.weld_segment in (
+      welding_step c.loop-i.invariant.0 c.loop-i-test.true w.ensures.0 w.auto.points w.auto.edges,
+      comparing_step c.loop-i.invariant.1 c.loop-i-test.true w.ensures.0 w.ensures.1,
+    )
 
 pub returns : goal.returns
 returns c =
