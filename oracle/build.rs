@@ -2,8 +2,8 @@
 //! them stands in this repository.
 //!
 //! slice.rs is built four times: as it stands; counting the crossings that lie in the middle by
-//! default; with that and the junction comparing cosines; and with both and sums that start at
-//! plus zero. One line is appended to each copy, so that src/reach.rs becomes a child of the
+//! default and the comparisons of points while welding; with that and the junction comparing
+//! cosines; and with both and sums that start at plus zero. One line is appended to each copy, so that src/reach.rs becomes a child of the
 //! module and can call its private functions.
 //!
 //! The source must be the one that pinned.sha256 has the checksums of: the two files, and those
@@ -19,7 +19,12 @@ const REACH: &str =
 
 /// Where the distances differ by too little to divide by, or by NaN. The value stays.
 const BY_DEFAULT: &str = "    } else {\n        0.5\n    };";
-const COUNTED: &str = "    } else {\n        crate::count_defaulted();\n        0.5\n    };";
+const DEFAULTED: &str = "    } else {\n        crate::count_defaulted();\n        0.5\n    };";
+
+/// Whether a point so far is within the tolerance of an end of a segment; `position` stops at the
+/// first that is. The value stays. Only welding calls `push_coord`, where this stands.
+const COMPARISON: &str = "position(|q| dist2(q, &p) <= tol2)";
+const COMPARED: &str = "position(|q| { crate::count_comparison(); dist2(q, &p) <= tol2 })";
 
 const ARCCOSINE: &str = "cos.clamp(-1.0, 1.0).acos().abs()";
 // The Rust takes a later edge on `candidate < best`. Negating is exact, so this reads 'the
@@ -46,7 +51,8 @@ fn main() {
     let snap = read(&tools.join("snap.rs"));
     pinned(&source, &Path::new(&home).join("pinned.sha256"));
 
-    let counted = replaced(&slice, BY_DEFAULT, COUNTED, 1);
+    let counted = replaced(&slice, BY_DEFAULT, DEFAULTED, 1);
+    let counted = replaced(&counted, COMPARISON, COMPARED, 1);
     let by_cosine = replaced(&counted, ARCCOSINE, NEGATED, 1);
     let mut by_rules = by_cosine.clone();
     for sum in SUMS {

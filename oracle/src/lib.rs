@@ -27,7 +27,8 @@ pub type Segment<const D: usize> = [[f64; D]; 2];
 pub enum Build {
     /// The source unchanged. It counts nothing.
     Rust,
-    /// Nothing is changed but that crossings in the middle by default are counted: see [`defaulted`].
+    /// Nothing is changed but that crossings in the middle by default and comparisons of points are counted: see
+    /// [`defaulted`] and [`comparisons`].
     Counted,
     /// As `Counted`, and the junction compares cosines, as docs/RULES.md says.
     ByCosine,
@@ -227,6 +228,7 @@ pub fn slice_line(build: Build, mesh: &Mesh, origin: &[f64], direction: &[f64]) 
 
 thread_local! {
     static DEFAULTED: Flag<usize> = const { Flag::new(0) };
+    static COMPARISONS: Flag<usize> = const { Flag::new(0) };
 }
 
 /// Called by each build but `Build::Rust` where a crossing lies at t = 0.5 by default.
@@ -240,6 +242,19 @@ pub fn defaulted<R>(work: impl FnOnce() -> R) -> (R, usize) {
     let before = DEFAULTED.get();
     let found = work();
     (found, DEFAULTED.get() - before)
+}
+
+/// Called by each build but `Build::Rust` where an end of a segment is compared with a point while welding.
+fn count_comparison() {
+    COMPARISONS.set(COMPARISONS.get() + 1);
+}
+
+/// What `work` gives, and the number of comparisons of points that it makes while welding, by any build but
+/// `Build::Rust`. It may call the functions above or those of `reach`.
+pub fn comparisons<R>(work: impl FnOnce() -> R) -> (R, usize) {
+    let before = COMPARISONS.get();
+    let found = work();
+    (found, COMPARISONS.get() - before)
 }
 
 fn section((points, loops): (Vec<[f64; 2]>, Vec<Vec<usize>>)) -> Section {

@@ -49,16 +49,26 @@ fn the_source_is_unchanged() {
     );
 }
 
+/// Two calls, each before a value that stays as it is. Points are compared in `push_coord`, which stitching alone calls.
 #[test]
-fn the_counted_source_has_one_line_more() {
+fn the_counted_source_counts_in_two_places() {
     let source = include_str!(concat!(env!("OUT_DIR"), "/rust.rs"));
     let counted = include_str!(concat!(env!("OUT_DIR"), "/counted.rs"));
-    let call = "crate::count_defaulted();\n";
-    assert_eq!(counted.matches(call).count(), 1);
-    let place = counted.find(call).unwrap();
-    let rest = counted[place + call.len()..].trim_start();
-    assert!(rest.starts_with("0.5\n"));
-    assert_eq!(counted[..place].to_owned() + rest, source);
+    assert_eq!(counted.matches("crate::count_").count(), 2);
+    let undone = counted
+        .replace(
+            "        crate::count_defaulted();\n        0.5\n",
+            "        0.5\n",
+        )
+        .replace(
+            "|q| { crate::count_comparison(); dist2(q, &p) <= tol2 }",
+            "|q| dist2(q, &p) <= tol2",
+        );
+    assert_eq!(undone, source);
+    let stitching = source.find("fn stitch_segments").unwrap();
+    let calls = source.match_indices("push_coord(&mut");
+    assert_eq!(calls.filter(|&(at, _)| at > stitching).count(), 2);
+    assert_eq!(source.matches("push_coord").count(), 3);
 }
 
 /// The count of each build, of a triangle with two corners this high and one as low that the axis y = 0 cuts.
@@ -93,6 +103,59 @@ fn the_faces_of_a_cell_add_up() {
     let (found, count) = defaulted(cut);
     assert_eq!((found.points.len(), count), (0, 8));
     assert_eq!(defaulted(|| stitch(Build::Counted, &[], 0.0)).1, 0);
+}
+
+/// The comparisons of points of each build that counts; the Rust as it stands counts none.
+fn compared(segments: &[Segment<2>], tol: f64) -> usize {
+    let count = |build| comparisons(|| stitch(build, segments, tol)).1;
+    let [rust, counted, by_cosine, by_rules] = BUILDS.map(count);
+    assert_eq!([rust, by_cosine, by_rules], [0, counted, counted]);
+    counted
+}
+
+/// Up to and with the first match, or with all points so far; the second end also with the first, once that is a point.
+#[test]
+fn comparisons_of_points_are_counted() {
+    let nan = f64::NAN;
+    let triangle = chain(&[[0.0, 0.0], [0.0, 1.0], [1.0, 0.0], [0.0, 0.0]]);
+    assert_eq!(compared(&[], 0.0), 0);
+    assert_eq!(compared(&triangle[..1], 0.0), 1);
+    assert_eq!(compared(&triangle, 0.0), [0, 1, 2, 2, 3, 1].iter().sum());
+    assert_eq!(compared(&triangle, nan), [0, 1, 2, 3, 4, 5].iter().sum());
+    for tol in [f64::INFINITY, 1.5, -1.5] {
+        assert_eq!(compared(&triangle, tol), 5);
+    }
+    // the second end of the second segment is near the first end of it alone
+    let apart = [[[0.0, 0.0], [4.0, 0.0]], [[2.0, 0.0], [2.5, 0.0]]];
+    assert_eq!(compared(&apart, 1.0), [0, 1, 2, 3].iter().sum());
+    // an end at NaN is near nothing, also with an infinite tolerance
+    let odd = [[[0.0, 0.0], [nan, 0.0]], [[nan, 0.0], [-0.0, 0.0]]];
+    assert_eq!(compared(&odd, f64::INFINITY), [0, 1, 2, 1].iter().sum());
+    let many = vec![[[1.0, 2.0], [3.0, 4.0]]; 384];
+    assert_eq!(compared(&many, nan), 384 * 767);
+    assert_eq!(compared(&many, f64::INFINITY), 767);
+}
+
+/// A plane cut compares what its segments, stitched, do; gathering them compares nothing; a mesh has those of its cells.
+#[test]
+fn cuts_compare_as_stitching_does() {
+    let mut coords = brick(0.0);
+    let build = Build::Counted;
+    let at = [0.0, 0.0, 0.5];
+    let cut = comparisons(|| plane_cut(build, hex(&coords), &at, &UP, 0.0).unwrap()).1;
+    assert_eq!(cut, [0, 1, 2, 3, 2, 3, 4, 1].iter().sum());
+    let (segments, gathering) =
+        comparisons(|| plane_segments(build, hex(&coords), &at, &UP, 0.0).unwrap());
+    assert_eq!((compared(&segments, 0.0), gathering), (cut, 0));
+    coords.extend(brick(5.0));
+    let second = EIGHT.map(|node| node + 8).to_vec();
+    let mesh = Mesh {
+        columns: 3,
+        coords,
+        cells: vec![(14, EIGHT.to_vec()), (14, second)],
+    };
+    let whole = comparisons(|| slice(build, &mesh, &at, &UP).unwrap()).1;
+    assert_eq!(whole, 2 * cut);
 }
 
 #[test]

@@ -16,7 +16,8 @@ fn main() {
     println!("What slice.rs gives for the worked cases of docs/RULES.md.");
     println!("'listed' is derived here from the segments, 'in loops' from the loops returned.");
     println!("The Rust's answer does not tell flat edges from open ones: listed less in loops");
-    println!("is both together. Stitched answers are the same in all four builds, unless said.");
+    println!("is both together. Stitched answers are the same in all four builds, unless said;");
+    println!("three of them count the comparisons of points while welding, and count alike.");
     faces_of_phed();
     brick();
     tetrahedron();
@@ -242,17 +243,19 @@ fn cut_at(cell: Cell<'_>, height: f64) -> (Section, [usize; 2]) {
     let origin = [0.0, 0.0, height];
     let segments = plane_segments(Build::Rust, cell, &origin, &UP, 0.0).unwrap();
     for build in BUILDS {
-        let cut = plane_cut(build, cell, &origin, &UP, 0.0).unwrap();
-        assert_eq!(cut, stitch(build, &segments, 0.0));
+        let cut = comparisons(|| plane_cut(build, cell, &origin, &UP, 0.0).unwrap());
+        assert_eq!(cut, comparisons(|| stitch(build, &segments, 0.0)));
     }
     stitched(&segments, 0.0)
 }
 
-/// Stitches and prints the section with its counts, listed and in loops.
+/// Stitches and prints the section with its counts, listed and in loops, and the comparisons of points.
 fn stitched(segments: &[Segment<2>], tol: f64) -> (Section, [usize; 2]) {
-    let found = stitch(Build::Rust, segments, tol);
-    for build in BUILDS {
-        assert_eq!(found, stitch(build, segments, tol));
+    let stitched = |build| comparisons(|| stitch(build, segments, tol));
+    let (found, compared) = stitched(Build::Counted);
+    assert_eq!(found, stitch(Build::Rust, segments, tol));
+    for build in [Build::ByCosine, Build::ByRules] {
+        assert_eq!(stitched(build), (found.clone(), compared));
     }
     println!("   points: {}", pairs(&found.points));
     for nodes in &found.loops {
@@ -268,7 +271,7 @@ fn stitched(segments: &[Segment<2>], tol: f64) -> (Section, [usize; 2]) {
     let told = counts(segments, tol, &found);
     let rest = told.flat_or_open();
     println!(
-        "   listed {}, in loops {}, flat or open {rest}",
+        "   listed {}, in loops {}, flat or open {rest}; comparisons of points {compared}",
         told.listed, told.in_loops
     );
     (found, [told.listed, told.in_loops])
