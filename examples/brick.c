@@ -63,5 +63,6 @@ int main(void) {
   printf("edges listed %u: in loops %u, flat %u, open %u\n", (unsigned)s.listed,
          (unsigned)s.in_loops, (unsigned)s.flat, (unsigned)s.open);
   printf("crossings in the middle by default: %u\n", (unsigned)s.defaulted);
+  printf("comparisons of points: %u\n", (unsigned)s.comparisons);
   return 0;
 }

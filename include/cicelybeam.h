@@ -117,7 +117,12 @@ extern "C" {
  * is drawn exactly where both are 0. A segment whose ends are one point within the tolerance is no edge,
  * one that repeats an edge adds none, and a corner at a distance of NaN counts as outside.
  *
- * defaulted is as above, and 0 of cicelybeam_stitch, which computes no crossing. */
+ * defaulted is as above, and 0 of cicelybeam_stitch, which computes no crossing.
+ *
+ * comparisons is the number of comparisons of points while welding. Each end of a segment, in order, is compared
+ * with the points so far, one after another, up to and with the first at a squared distance of at most tol * tol;
+ * where there is none it has been compared with all of them, and becomes the next point. Of s segments it is
+ * proved to be at most s * (2 * s - 1), so at most 294528. */
 struct cicelybeam_section {
   uint32_t refusal;
   uint32_t points;
@@ -128,12 +133,13 @@ struct cicelybeam_section {
   uint32_t flat;
   uint32_t open;
   uint32_t defaulted;
+  uint32_t comparisons;
 };
 
 /* Segments: the part of a line within a cell, or those that a plane cut gathers. Written to numbers: first
- * end, then second; six numbers a segment of a line in space, else four. No counts of edges are told: what a
- * line in space loses is said at cicelybeam_line_in_space, and stitching counts the edges of what is gathered.
- * defaulted is as above. */
+ * end, then second; six numbers a segment of a line in space, else four. No counts of edges and no comparisons
+ * are told: what a line in space loses is said at cicelybeam_line_in_space, and stitching tells both of what is
+ * gathered. defaulted is as above. */
 struct cicelybeam_line {
   uint32_t refusal;
   uint32_t segments;

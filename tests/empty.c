@@ -4,7 +4,7 @@
 
 static int is_empty(struct cicelybeam_section s, uint32_t refusal) {
   return s.refusal == refusal && s.points == 0 && s.nodes == 0 && s.loops == 0 && s.listed == 0 &&
-         s.in_loops == 0 && s.flat == 0 && s.open == 0 && s.defaulted == 0;
+         s.in_loops == 0 && s.flat == 0 && s.open == 0 && s.defaulted == 0 && s.comparisons == 0;
 }
 
 static int is_none(struct cicelybeam_line l, uint32_t refusal) {
