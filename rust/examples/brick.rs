@@ -29,5 +29,6 @@ fn main() -> Result<(), Refusal> {
         edges.listed, edges.in_loops, edges.flat, edges.open
     );
     println!("crossings in the middle by default: {}", section.defaulted);
+    println!("comparisons of points: {}", section.comparisons);
     Ok(())
 }

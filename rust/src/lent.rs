@@ -39,6 +39,8 @@ pub struct Written {
     pub edges: Edges,
     /// The crossings that lie in the middle [by default](crate#crossings-in-the-middle-by-default).
     pub defaulted: u32,
+    /// The [comparisons of points](crate#comparisons-of-points) while welding.
+    pub comparisons: u32,
 }
 
 /// How much of a buffer holds segments.
@@ -160,6 +162,7 @@ fn written(found: linked::Section) -> Result<Written, Refusal> {
             open: found.open,
         },
         defaulted: found.defaulted,
+        comparisons: found.comparisons,
     })
 }
 

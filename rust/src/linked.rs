@@ -19,6 +19,7 @@ pub struct Section {
     pub flat: u32,
     pub open: u32,
     pub defaulted: u32,
+    pub comparisons: u32,
 }
 
 impl Section {
@@ -32,8 +33,9 @@ impl Section {
             self.flat,
             self.open,
             self.defaulted,
+            self.comparisons,
         ];
-        told == [0; 8]
+        told == [0; 9]
     }
 }
 

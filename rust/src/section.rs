@@ -16,6 +16,8 @@ pub struct Section {
     pub edges: Edges,
     /// The crossings that lie in the middle [by default](crate#crossings-in-the-middle-by-default).
     pub defaulted: u32,
+    /// The [comparisons of points](crate#comparisons-of-points) while welding.
+    pub comparisons: u32,
 }
 
 /// Segments: the part of a line within a cell, or those that a plane cut gathers.
@@ -80,6 +82,7 @@ pub(crate) fn filled(
         ends: vec![0; ends],
         edges: Edges::default(),
         defaulted: 0,
+        comparisons: 0,
     };
     let written = cut(Buffers {
         numbers: section.points.as_flattened_mut(),
@@ -91,6 +94,7 @@ pub(crate) fn filled(
     section.ends.truncate(written.loops);
     section.edges = written.edges;
     section.defaulted = written.defaulted;
+    section.comparisons = written.comparisons;
     Ok(section)
 }
 

@@ -80,7 +80,7 @@ fn bits(section: &Section) -> (Vec<u64>, &[u32], &[u32], Edges) {
 }
 
 /// But for the crossings in the middle by default, which gathering tells and stitching has none of. A brick with a corner
-/// at NaN has some.
+/// at NaN has some. The comparisons of points are the plane cut's.
 #[test]
 fn gathered_and_stitched_is_the_plane_cut() {
     let mut with_nan = BRICK;
@@ -98,6 +98,7 @@ fn gathered_and_stitched_is_the_plane_cut() {
                         let stitched = stitch(&found.segments, tol).unwrap();
                         assert_eq!(bits(&stitched), bits(&cut));
                         assert_eq!((found.defaulted, stitched.defaulted), (cut.defaulted, 0));
+                        assert_eq!(stitched.comparisons, cut.comparisons);
                         loops += cut.ends.len();
                         defaulted += cut.defaulted;
                     }
