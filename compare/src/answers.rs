@@ -1,5 +1,6 @@
 //! What an entry has to answer: the rules' refusals, and beyond them what mefikit's Rust gives.
 
+use crate::comparisons;
 use crate::entries::{Case, Cut, Entry, Lent, Told};
 use crate::numbers::agree;
 use crate::walks::{walked, Edges};
@@ -25,9 +26,6 @@ impl Answer {
     }
 }
 
-/// A list of segments in the plane as the oracle takes it.
-type Segments = Vec<Segment<2>>;
-
 /// The most entries of a PHED, nodes of a PGON, and segments to stitch.
 const MOST_ENTRIES: usize = 256;
 const MOST_SEGMENTS: usize = 384;
@@ -36,7 +34,8 @@ const MOST_SEGMENTS: usize = 384;
 pub const PGON: u8 = 11;
 pub const PHED: u8 = 18;
 
-/// The answer, by this build of the Rust. `Build::Rust` tells no crossings in the middle by default: it counts none.
+/// The answer, by this build of the Rust. `Build::Rust` tells neither crossings in the middle by default nor comparisons of
+/// points: it counts none.
 pub fn answer(case: &Case, build: Build) -> Answer {
     let found = match case.entry {
         Entry::Plane => plane(case, build),
@@ -168,10 +167,19 @@ fn plane(case: &Case, build: Build) -> Result<Answer, u32> {
     let nodes = nodes(case);
     let cell = cell(case, &nodes)?;
     let (fit, origin, normal) = placed(case);
-    let cut = || oracle::plane_cut(build, cell, &origin, &normal, case.tol);
-    let (cut, defaulted) = unrefused(case, fit, cut)?;
+    let counted = || {
+        let cut = || oracle::plane_cut(build, cell, &origin, &normal, case.tol);
+        let (cut, comparisons) = oracle::comparisons(cut);
+        Ok((cut?, comparisons))
+    };
+    let ((cut, comparisons), defaulted) = unrefused(case, fit, counted)?;
     let segments = oracle::plane_segments(build, cell, &origin, &normal, case.tol).unwrap();
-    Ok(section(&cut, &segments, case.tol, defaulted))
+    let answer = section(&cut, &segments, case.tol, comparisons);
+    let told = Told {
+        defaulted,
+        ..answer.told
+    };
+    Ok(Answer { told, ..answer })
 }
 
 fn gather(case: &Case, build: Build) -> Result<Answer, u32> {
@@ -188,16 +196,14 @@ fn stitch(case: &Case, build: Build) -> Result<Answer, u32> {
         return Err(8);
     }
     with_room(case)?;
-    let segments: Segments = numbers
-        .chunks_exact(4)
-        .map(|s| [[s[0], s[1]], [s[2], s[3]]])
-        .collect();
-    let found = oracle::stitch(build, &segments, case.tol);
-    Ok(section(&found, &segments, case.tol, 0))
+    let segments = comparisons::segments(numbers);
+    let stitch = || oracle::stitch(build, &segments, case.tol);
+    let (found, comparisons) = oracle::comparisons(stitch);
+    Ok(section(&found, &segments, case.tol, comparisons))
 }
 
-/// A section as it stands in buffers. The counts are the rules', by cosines; the Rust has none.
-fn section(found: &Section, segments: &Segments, tol: f64, defaulted: u32) -> Answer {
+/// A section as it stands in buffers, without crossings. The counts of edges are the rules', by cosines; the Rust has none.
+fn section(found: &Section, segments: &[Segment<2>], tol: f64, comparisons: usize) -> Answer {
     let (points, edges) = listed(segments, tol);
     let Edges {
         listed,
@@ -220,8 +226,8 @@ fn section(found: &Section, segments: &Segments, tol: f64, defaulted: u32) -> An
             in_loops: in_loops as u32,
             flat: flat as u32,
             open: open as u32,
-            defaulted,
-            tolerance: 0.0,
+            comparisons: comparisons as u32,
+            ..Told::default()
         },
         numbers: found.points.as_flattened().to_vec(),
         nodes,

@@ -1,7 +1,8 @@
 //! The linked entries held against mefikit's Rust and the rules' refusals, and their counts against
-//! another walk and a plain count of crossings.
+//! another walk and plain counts of crossings and of comparisons.
 
 use crate::answers::{answer, kept_corners};
+use crate::comparisons::{self, Welding, Weldings};
 use crate::cuts::{any_case, corner, refusals, sound, spoil};
 use crate::defaulted::{of_case, Crossings, Cuts};
 use crate::entries::{Case, Cut, Entry, Lent, Told};
@@ -32,6 +33,7 @@ pub struct Right {
     /// The Rust, comparing arccosines, goes another way than with cosines.
     pub arccosine: bool,
     pub crossings: Crossings,
+    pub welding: Welding,
 }
 
 /// Holds an answer against mefikit's on one case.
@@ -88,17 +90,21 @@ pub fn judge(case: &Case, cut: Cut, buffers: &mut Buffers) -> Result<Right, Stri
     if !right {
         return wrong("differs from the Rust");
     }
-    let crossings = match told.refusal {
-        0 => of_case(case),
-        _ => Crossings::default(),
+    let (crossings, welding) = match told.refusal {
+        0 => (of_case(case), comparisons::of_case(case)),
+        _ => Default::default(),
     };
     if crossings.defaulted() != told.defaulted {
         return wrong(&format!("the plain count is {crossings:?}"));
+    }
+    if welding.comparisons != told.comparisons as usize {
+        return wrong(&format!("the plain count is {welding:?}"));
     }
     Ok(Right {
         told,
         arccosine,
         crossings,
+        welding,
     })
 }
 
@@ -132,6 +138,7 @@ pub struct Reached {
     pub arccosine: u64,
     /// Those with crossings in the middle by default.
     pub cuts: Cuts,
+    pub weldings: Weldings,
     /// Cells with a corner above the tolerance and one below that list no edge.
     pub unlisted: Unlisted,
 }
@@ -181,9 +188,11 @@ impl Reached {
             told,
             arccosine,
             crossings,
+            welding,
         }) = &outcome
         {
             self.cuts.count(crossings, case.tol, gives(case, told));
+            self.weldings.count(welding);
             self.refused[told.refusal as usize] += 1;
             self.arccosine += u64::from(*arccosine);
             self.loops += u64::from(told.loops);

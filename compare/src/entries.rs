@@ -130,6 +130,8 @@ pub struct Told {
     pub open: u32,
     /// Crossings in the middle by default.
     pub defaulted: u32,
+    /// Comparisons of points while welding.
+    pub comparisons: u32,
     pub tolerance: f64,
 }
 
@@ -198,6 +200,7 @@ fn section(found: Result<Written, Refusal>) -> Told {
         flat: found.edges.flat,
         open: found.edges.open,
         defaulted: found.defaulted,
+        comparisons: found.comparisons,
         tolerance: 0.0,
     })
 }

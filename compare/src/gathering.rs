@@ -1,13 +1,16 @@
 //! Gathering held against mefikit's Rust; and on the same cells gathering, and then stitching what was gathered, against the
-//! plane cut, and the segments of a cell against those of its faces, each handed over alone.
+//! plane cut, the segments of a cell against those of its faces, each handed over alone, and the comparisons of points
+//! against the Rust's and a plain count of what was gathered.
 
 use crate::answers::{given, room, Answer, PHED};
+use crate::comparisons::{of_segments, segments, Welding, Weldings};
 use crate::cuts::any_case;
 use crate::cutting::{compare_each, Reached};
 use crate::entries::{Case, Cut, Entry};
 use crate::numbers::{agree, same};
 use crate::random::Random;
 use crate::{ByType, Found};
+use oracle::Build;
 
 /// What the cells came to.
 #[derive(Default)]
@@ -23,14 +26,18 @@ pub struct Gathered {
     pub faces: u64,
     /// The crossings in the middle by default that gathering and the plane cut tell.
     pub defaulted: u64,
+    /// The comparisons of points that stitching and the plane cut tell.
+    pub weldings: Weldings,
 }
 
-/// What one cell showed: the refusal of its plane cut, its segments, its faces and its crossings in the middle by default.
+/// What one cell showed: the refusal of its plane cut, its segments, its faces, its crossings in the middle by default and
+/// its comparisons of points.
 pub struct Right {
     pub refusal: u32,
     pub segments: usize,
     pub faces: usize,
     pub defaulted: u32,
+    pub welding: Welding,
 }
 
 /// Holds gathering, then stitching, against the plane cut of this case.
@@ -55,7 +62,15 @@ pub fn judge(case: &Case, cut: Cut) -> Result<Right, String> {
     if alone.iter().map(|one| one.told.defaulted).sum::<u32>() != defaulted {
         return wrong("the crossings in the middle by default are not those of the faces");
     }
+    let mut welding = Welding::default();
     if section.told.refusal == 0 {
+        let list = segments(&gathered.numbers);
+        let stitch = || oracle::stitch(Build::Counted, &list, case.tol);
+        let (_, counted) = oracle::comparisons(stitch);
+        welding = of_segments(&list, case.tol);
+        if [counted, welding.comparisons] != [section.told.comparisons as usize; 2] {
+            return wrong("the comparisons are not those of stitching what was gathered");
+        }
         let mut again = stitched(&gathered, case.tol, cut);
         if again.told.defaulted != 0 {
             return wrong("stitching tells crossings in the middle by default");
@@ -72,6 +87,7 @@ pub fn judge(case: &Case, cut: Cut) -> Result<Right, String> {
         segments: gathered.told.points as usize,
         faces: alone.len(),
         defaulted,
+        welding,
     })
 }
 
@@ -140,6 +156,7 @@ pub fn compare(cases: u64, cut: Cut) -> Gathered {
             all.segments += right.segments as u64;
             all.faces += right.faces as u64;
             all.defaulted += u64::from(right.defaulted);
+            all.weldings.count(&right.welding);
             if right.refusal == 0 {
                 all.answered.count(case.number);
             }
@@ -207,6 +224,7 @@ mod tests {
         assert!(all.refused[..8].iter().all(|&count| count > 0));
         assert!(all.segments > all.found.cases && all.faces > all.found.cases);
         assert!(all.defaulted > all.found.cases / 10);
+        assert!(all.weldings.comparisons > all.segments && all.weldings.most > 0);
     }
 
     /// The builds differ in stitching and in the sign of zeros only, and the Rust as it stands counts no crossings.
@@ -266,6 +284,8 @@ mod tests {
             |case, lent| changed(case, lent, Entry::Stitch, |told, _| told.defaulted += 1),
             |case, lent| changed(case, lent, Entry::Plane, |told, _| told.defaulted += 1),
             |case, lent| changed(case, lent, Entry::Gather, |told, _| told.defaulted += 1),
+            |case, lent| changed(case, lent, Entry::Stitch, |told, _| told.comparisons += 1),
+            |case, lent| changed(case, lent, Entry::Plane, |told, _| told.comparisons += 1),
             |case, lent| changed(case, lent, Entry::Plane, |told, _| told.open += 1),
             |case, lent| changed(case, lent, Entry::Plane, |_, numbers| numbers[1] += 1.0),
             |case, lent| match case.entry {

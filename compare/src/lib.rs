@@ -4,6 +4,8 @@
 pub mod answers;
 pub mod cells;
 #[cfg(feature = "mefikit")]
+pub mod comparisons;
+#[cfg(feature = "mefikit")]
 pub mod cuts;
 #[cfg(feature = "mefikit")]
 pub mod cutting;

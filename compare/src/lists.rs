@@ -33,8 +33,8 @@ impl List {
 pub type Group = (&'static str, u64, fn(&mut Random) -> List);
 
 /// The groups.
-pub const GROUPS: [Group; 12] = [
-    ("edges among few whole points", 200, |random| {
+pub const GROUPS: [Group; 13] = [
+    ("edges among few whole points", 190, |random| {
         among_few(random, whole, usual_tolerance)
     }),
     ("edges among few random points", 150, |random| {
@@ -54,6 +54,7 @@ pub const GROUPS: [Group; 12] = [
         among_few(random, draw, any_tolerance)
     }),
     ("any bits", 20, |random| among_few(random, any, any)),
+    ("ends all one point or all apart", 10, alike_or_apart),
     ("many edges", 8, many_edges),
     ("384 segments", 2, |random| {
         let mut list = many_edges(random);
@@ -207,6 +208,38 @@ fn close_directions(random: &mut Random) -> List {
         }
     }
     List { segments, tol: 0.0 }
+}
+
+/// Segments, as many as fill the small tables of the code or the large ones and some more or fewer, whose ends are all one
+/// point, which may have zeros of either sign, or all apart. Some have numbers that are not finite.
+fn alike_or_apart(random: &mut Random) -> List {
+    let many = match random.below(16) {
+        0 => random.pick(&[383, 384]),
+        _ => random.pick(&[0, 1, 2, 3, 15, 16, 17, 18]),
+    };
+    let (apart, wild) = (random.one_in(2), random.one_in(4));
+    let end = |random: &mut Random, k: usize| {
+        let x = match random.below(8) {
+            0 if wild => wild_number(random),
+            _ if apart => 2.0 * k as f64,
+            _ => random.pick(&[0.0, -0.0]),
+        };
+        [x, random.pick(&[0.0, -0.0])]
+    };
+    let segments = (0..many)
+        .map(|k| [end(random, 2 * k), end(random, 2 * k + 1)])
+        .collect();
+    let tol = random.pick(&[
+        0.0,
+        -0.0,
+        1e-12,
+        1.0,
+        -1.0,
+        f64::INFINITY,
+        f64::NEG_INFINITY,
+        f64::NAN,
+    ]);
+    List { segments, tol }
 }
 
 /// Up to 384 segments: a ring, polygons side by side, or edges among some tens of points.

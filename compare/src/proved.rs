@@ -119,10 +119,10 @@ pub fn segments<const D: usize>(
     }
 }
 
-/// How many points, nodes and loops stitching wrote, and its four counts of edges. `fitted` is 0 if
-/// the lengths did not fit, else 1.
+/// How many points, nodes and loops stitching wrote, its four counts of edges, and its comparisons of points.
+/// `fitted` is 1; if the lengths did not fit all are 0.
 #[repr(C)]
-#[derive(Clone, Copy, Debug, PartialEq, Eq)]
+#[derive(Clone, Copy, Debug, Default, PartialEq, Eq)]
 pub struct Stitched {
     pub fitted: usize,
     pub points: usize,
@@ -132,6 +132,7 @@ pub struct Stitched {
     pub in_loops: usize,
     pub flat: usize,
     pub opened: usize,
+    pub comparisons: usize,
 }
 
 /// Stitching, written to the lent buffers.

@@ -1,5 +1,6 @@
-//! The proved stitching held against mefikit's, and its counts against another walk.
+//! The proved stitching held against mefikit's, and its counts against another walk and a plain count of comparisons.
 
+use crate::comparisons::{of_segments, Welding, Weldings};
 use crate::lists::{Group, List};
 use crate::numbers::{agree, alike, same, untouched, UNTOUCHED};
 use crate::proved::{self, Stitched};
@@ -36,6 +37,7 @@ pub struct Buffers {
 pub struct Stitchings {
     pub found: Found,
     pub edges: Edges,
+    pub weldings: Weldings,
     /// Lists on which the Rust and the Rust with cosines differ, and the first of them.
     pub arccosine: u64,
     pub first_arccosine: Option<String>,
@@ -44,6 +46,7 @@ pub struct Stitchings {
 /// What one list showed.
 pub struct Right {
     pub edges: Edges,
+    pub welding: Welding,
     /// The Rust and the Rust with cosines differ.
     pub arccosine: bool,
 }
@@ -89,7 +92,8 @@ pub fn judge(
     if points.iter().any(untouched) {
         return wrong("left a number unwritten");
     }
-    let rules = oracle::stitch(Build::ByRules, &list.segments, list.tol);
+    let rules = || oracle::stitch(Build::ByRules, &list.segments, list.tol);
+    let (rules, comparisons) = oracle::comparisons(rules);
     let same_points = agree(same, points, rules.points.as_flattened());
     if !same_points || !loops_are(nodes, ends, &rules) {
         return wrong("differs from the rules");
@@ -113,8 +117,15 @@ pub fn judge(
     if claimed != counted || told.in_loops != in_loops || told.listed != edges.len() {
         return wrong(&format!("the counts are not {counted:?}"));
     }
+    let welding = of_segments(&list.segments, list.tol);
+    if [comparisons, welding.comparisons] != [told.comparisons; 2] {
+        return wrong(&format!(
+            "the Rust counts {comparisons}, the plain count is {welding:?}"
+        ));
+    }
     Ok(Right {
         edges: claimed,
+        welding,
         arccosine,
     })
 }
@@ -157,6 +168,7 @@ pub fn compare(group: &Group, cases: u64, stitch: Stitch) -> Stitchings {
         let outcome = judge(&list, stitch, longer, &mut buffers);
         if let Ok(right) = &outcome {
             all.edges.add(right.edges);
+            all.weldings.count(&right.welding);
             if right.arccosine {
                 all.arccosine += 1;
                 all.first_arccosine.get_or_insert_with(|| list.told());
@@ -171,7 +183,11 @@ pub fn compare(group: &Group, cases: u64, stitch: Stitch) -> Stitchings {
 #[cfg(test)]
 mod tests {
     use super::*;
+    use crate::comparisons::wrong::{counted, right, End, COUNTS};
     use crate::lists::GROUPS;
+    use oracle::BUILDS;
+
+    type Lent<'a> = (&'a mut [f64], &'a mut [u32], &'a mut [u32]);
 
     /// How many of a group's lists, some thousands or hundreds of them, are seen to differ.
     fn seen(stitch: Stitch) -> Vec<u64> {
@@ -234,17 +250,61 @@ mod tests {
             wrong(&mut told);
             told
         }
-        type Lent<'a> = (&'a mut [f64], &'a mut [u32], &'a mut [u32]);
         seen_in_each(|list, a, b, c| with(list, (a, b, c), |told| told.listed += 1));
         seen_in_each(|list, a, b, c| with(list, (a, b, c), |told| told.in_loops += 1));
         seen_in_each(|list, a, b, c| with(list, (a, b, c), |told| told.flat += 1));
         seen_in_each(|list, a, b, c| with(list, (a, b, c), |told| told.opened += 1));
+        seen_in_each(|list, a, b, c| with(list, (a, b, c), |told| told.comparisons += 1));
         seen_in_each(|list, a, b, c| {
             with(list, (a, b, c), |told| {
                 told.opened += told.flat;
                 told.flat = 0;
             })
         });
+    }
+
+    /// The proved stitching, with the comparisons of points counted otherwise.
+    fn recounted(list: &List, lent: Lent, of_end: fn(&End) -> usize) -> Stitched {
+        Stitched {
+            comparisons: counted(&list.segments, list.tol, of_end),
+            ..ours(list, lent.0, lent.1, lent.2)
+        }
+    }
+
+    #[test]
+    fn a_wrong_count_of_comparisons_is_seen() {
+        seen_in_each(|list, a, b, c| recounted(list, (a, b, c), COUNTS[0]));
+        seen_in_each(|list, a, b, c| recounted(list, (a, b, c), COUNTS[1]));
+        seen_in_each(|list, a, b, c| recounted(list, (a, b, c), COUNTS[2]));
+        seen_in_each(|list, a, b, c| recounted(list, (a, b, c), COUNTS[3]));
+        seen_in_each(|list, a, b, c| recounted(list, (a, b, c), COUNTS[4]));
+        let right: Stitch = |list, a, b, c| recounted(list, (a, b, c), right);
+        assert_eq!(seen(right), [0; 10]);
+    }
+
+    #[test]
+    fn the_builds_that_count_compare_alike() {
+        let mut random = Random::new(1);
+        for group in &GROUPS {
+            for _ in 0..50 {
+                let list = (group.2)(&mut random);
+                let stitch = |build| oracle::stitch(build, &list.segments, list.tol);
+                let found = BUILDS.map(|build| oracle::comparisons(|| stitch(build)).1);
+                let [rust, counted, by_cosine, by_rules] = found;
+                assert_eq!([rust, by_cosine, by_rules], [0, counted, counted]);
+            }
+        }
+    }
+
+    #[test]
+    fn the_most_and_the_fewest_comparisons_are_reached() {
+        let found = compare(&GROUPS[10], 100_000, ours);
+        let weldings = found.weldings;
+        assert_eq!(found.found.differing, 0, "{:?}", found.found.first);
+        assert!(weldings.most > 100 && weldings.fewest > 100, "{weldings:?}");
+        assert!(weldings.several > weldings.most + weldings.fewest);
+        let greatest = weldings.greatest;
+        assert_eq!((greatest.segments, greatest.comparisons), (384, 294_528));
     }
 
     #[test]
@@ -275,7 +335,7 @@ mod tests {
                 &mut nodes[..lent[1]],
                 &mut ends[..lent[2]],
             );
-            assert_eq!(told.fitted, 0);
+            assert_eq!(told, Stitched::default());
             assert!(points.iter().all(untouched));
             assert!(nodes.iter().chain(&ends).all(|&x| x == NODE));
         }

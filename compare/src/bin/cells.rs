@@ -74,6 +74,9 @@ fn print_reached(reached: &Reached) {
     if reached.cuts.defaulted > 0 {
         reached.cuts.print();
     }
+    if reached.weldings.comparisons > 0 {
+        reached.weldings.print();
+    }
     if reached.arccosine > 0 {
         line(format!(
             "{} on which the Rust, comparing arccosines, goes another way than with cosines",

@@ -37,6 +37,7 @@ fn main() -> ExitCode {
         "{} segments, {} faces handed over alone, and {} crossings in the middle by default",
         gathered.segments, gathered.faces, gathered.defaulted
     ));
+    gathered.weldings.print();
     let differing = reached.found.differing + refusals.differing + gathered.found.differing;
     println!(
         "{:.1} seconds, {differing} differ",

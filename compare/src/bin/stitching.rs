@@ -21,6 +21,7 @@ fn main() -> ExitCode {
         all.found.giving += group_found.found.giving;
         all.found.differing += group_found.found.differing;
         all.edges.add(group_found.edges);
+        all.weldings.add(&group_found.weldings);
         all.arccosine += group_found.arccosine;
         all.first_arccosine = all.first_arccosine.or(group_found.first_arccosine);
     }
@@ -30,6 +31,7 @@ fn main() -> ExitCode {
         "{:>10} edges listed: {} in loops, {} flat, {} open",
         edges.listed, edges.in_loops, edges.flat, edges.open
     );
+    all.weldings.print();
     println!(
         "{:>10} lists on which the Rust, comparing arccosines, goes another way than with cosines",
         all.arccosine

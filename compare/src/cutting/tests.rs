@@ -1,7 +1,10 @@
 use super::*;
 use crate::answers::room;
+use crate::comparisons::wrong::{counted, right, End, COUNTS};
+use crate::comparisons::{gathered, segments};
 use crate::entries::ours;
 use crate::worked::{worked_in_all_buffers, Worked};
+use oracle::BUILDS;
 
 const ENTRIES: [Entry; 8] = Entry::ALL;
 const CUTS: [Entry; 6] = [
@@ -102,8 +105,17 @@ fn everything_is_reached() {
             assert_eq!(cuts.defaulted, 0, "{entry:?}");
         }
         assert_eq!(cuts.of_both > 0, entry == Entry::LineInSpace);
+        let weldings = reached.weldings;
         if SECTIONS.contains(&entry) {
             assert!(reached.with_flat > 0 && reached.with_open > 0, "{entry:?}");
+            assert!(weldings.most > 10, "{entry:?} {weldings:?}");
+            assert!(weldings.several > weldings.most + weldings.fewest);
+        } else {
+            assert_eq!(weldings.comparisons, 0, "{entry:?}");
+        }
+        if entry == Entry::Stitch {
+            assert!(weldings.fewest > 10, "{weldings:?}");
+            assert_eq!(weldings.greatest.comparisons, 294_528);
         }
     }
     assert!(compare(Entry::Plane, 20_000, ours).unlisted.all > 0);
@@ -185,6 +197,49 @@ fn a_wrong_count_of_crossings_is_seen() {
     );
 }
 
+/// The linked function, with the comparisons of points of a section counted otherwise.
+fn compared(case: &Case, lent: Lent, of_end: fn(&End) -> usize) -> Told {
+    let mut told = ours(case, lent);
+    if told.refusal == 0 && SECTIONS.contains(&case.entry) {
+        let list = match case.entry {
+            Entry::Plane => gathered(case),
+            _ => segments(&case.segments),
+        };
+        told.comparisons = counted(&list, case.tol, of_end) as u32;
+    }
+    told
+}
+
+#[test]
+fn a_wrong_count_of_comparisons_is_seen() {
+    seen(&CUTS, |case, lent| {
+        retold(case, lent, |told| told.comparisons += 1)
+    });
+    seen(&SECTIONS, |case, lent| compared(case, lent, COUNTS[0]));
+    seen(&SECTIONS, |case, lent| compared(case, lent, COUNTS[1]));
+    seen(&SECTIONS, |case, lent| compared(case, lent, COUNTS[2]));
+    seen(&SECTIONS, |case, lent| compared(case, lent, COUNTS[3]));
+    seen(&SECTIONS, |case, lent| compared(case, lent, COUNTS[4]));
+    for entry in SECTIONS {
+        let found = compare(entry, 3_000, |case, lent| compared(case, lent, right));
+        assert_eq!(found.found.differing, 0, "{entry:?}");
+    }
+}
+
+/// The Rust as it stands counts none.
+#[test]
+fn the_builds_that_count_compare_alike() {
+    for entry in SECTIONS {
+        let mut random = Random::new(1);
+        for _ in 0..1_000 {
+            let case = any_case(&mut random, entry);
+            let [rust, counted, by_cosine, by_rules] =
+                BUILDS.map(|build| answer(&case, build).told.comparisons);
+            assert_eq!([rust, by_cosine, by_rules], [0, counted, counted]);
+        }
+    }
+}
+
 #[test]
 fn a_dropped_loop_is_seen() {
     seen(&SECTIONS, |case, lent| {
@@ -210,6 +265,11 @@ fn a_refusal_that_tells_more_is_seen() {
     seen(&CUTS, |case, lent| {
         let mut told = ours(case, lent);
         told.defaulted += u32::from(told.refusal > 0);
+        told
+    });
+    seen(&CUTS, |case, lent| {
+        let mut told = ours(case, lent);
+        told.comparisons += u32::from(told.refusal > 0);
         told
     });
 }
