@@ -11,7 +11,7 @@
 //! | four lists | nodes; coordinates, for entry 5 the numbers of the segments; origin; normal or direction |
 //! | 3 | the lengths of the buffers for numbers, nodes and ends |
 //! | 1 | expected of entries 6, 7 and 8: the tolerance or the root, in bits |
-//! | a list of 9 | expected: refusal, points (or segments), nodes, loops, edges listed, in loops, flat and open, and crossings in the middle by default |
+//! | a list of 10 | expected: refusal, points (or segments), nodes, loops, edges listed, in loops, flat and open, crossings in the middle by default, and comparisons of points |
 //! | three lists | expected in the buffers, which keep the rest: numbers in bits (2 a point, 6 a segment in space, 4 in the plane and gathered), nodes, ends |
 //!
 //! Where an entry has no such argument or answer the word is 0 or the list is empty. Every NaN is
@@ -97,7 +97,7 @@ fn put_list(words: &mut Vec<u64>, list: impl ExactSizeIterator<Item = u64>) {
     words.extend(list);
 }
 
-fn counts(told: &Told) -> [u32; 9] {
+fn counts(told: &Told) -> [u32; 10] {
     [
         told.refusal,
         told.points,
@@ -108,6 +108,7 @@ fn counts(told: &Told) -> [u32; 9] {
         told.flat,
         told.open,
         told.defaulted,
+        told.comparisons,
     ]
 }
 
@@ -144,7 +145,7 @@ mod tests {
         let expected = [&[2][..], &record, &record].concat();
         assert_eq!(words[0], 1);
         assert_eq!(words[1 + NAME / 8..], expected);
-        let told = [9, 0, 0, 0, 0, 0, 0, 0, 0, 0];
+        let told = [10, 0, 0, 0, 0, 0, 0, 0, 0, 0, 0];
         let root = [(-0.0f64).to_bits()];
         let given = [8, 0, 4.0f64.to_bits(), 0, 0, 0, 0, 0, 0, 0];
         assert_eq!(record, [&given[..], &root, &told, &[0, 0, 0]].concat());

@@ -1,5 +1,5 @@
 //! The rules' worked cases, each with the answer told there, written from its words; and cases of crossings in the middle by
-//! default, worked by hand.
+//! default and of comparisons of points, worked by hand. The comparisons of all cases are worked by hand.
 //!
 //! Case 12, two square roots, is no case of an entry that compares with the Rust: it stands in `roots`.
 
@@ -48,6 +48,18 @@ pub const BY_DEFAULT: [&str; 10] = [
     "a line in it, six of its plane and two of its loop",
 ];
 
+/// What the cases of comparisons of points are about. They are numbered on from the last of `BY_DEFAULT`.
+pub const COMPARISONS: [&str; 8] = [
+    "triangle, each end up to its first match",
+    "a second end after the first of its segment",
+    "the first match, not the nearest",
+    "384 segments, tolerance NaN, the most",
+    "384 segments, tolerance infinite, the fewest",
+    "16 and 17 segments apart",
+    "a negative tolerance, both zeros, NaN",
+    "plane cuts of tubes of 16 and 17 walls",
+];
+
 /// 2^-1074 and 2^-1022.
 const LEAST: f64 = f64::from_bits(1);
 const LEAST_NORMAL: f64 = f64::MIN_POSITIVE;
@@ -73,6 +85,7 @@ pub fn worked() -> Vec<Worked> {
     all.extend(placed());
     all.extend(limits());
     all.extend(by_default());
+    all.extend(of_comparisons());
     for one in &mut all {
         one.case.lent = room(&one.case);
     }
@@ -104,15 +117,20 @@ fn cut() -> Vec<Worked> {
     let ends = [[1.5, 0.0], [0.5, 0.0], [6.5, 0.0], [5.5, 0.0]];
     let faces = |a, b| {
         let answer = section(&ends, &[], [2, 0, 0, 2]);
+        let answer = comparing(sum(&[0, 1, 2, 3]), answer);
         is(1, polyhedron(Entry::Plane, &conn(a, b)), answer)
     };
     let half = [0.0, 0.0, 0.5];
     let corners = [[0.0, 0.0], [1.0, 0.0], [1.0, 1.0], [0.0, 1.0]];
     let [a, b, c, d] = corners;
     let sides = [a, b, c, d, b, c, d, a];
-    let square = || section(&corners, &[&[0, 1, 2, 3]], [4, 4, 0, 0]);
+    let square = || {
+        let square = section(&corners, &[&[0, 1, 2, 3]], [4, 4, 0, 0]);
+        comparing(sum(&[0, 1, 2, 3, 2, 3, 4, 1]), square)
+    };
     let triangle = [[0.0, 0.0], [0.75, 0.0], [0.0, 0.75]];
     let triangle = section(&triangle, &[&[0, 1, 2]], [3, 3, 0, 0]);
+    let triangle = comparing(sum(&[0, 1, 2, 2, 3, 1]), triangle);
     vec![
         faces(3, 4),
         // the nodes of a face that is dropped need be no rows
@@ -148,27 +166,33 @@ fn stitched() -> Vec<Worked> {
         is(
             6,
             stitch(&triangle(), 0.0),
-            section(&[a, b, c], &[&[2, 1, 0]], [3, 3, 0, 0]),
+            comparing(
+                sum(&[0, 1, 2, 2, 3, 1]),
+                section(&[a, b, c], &[&[2, 1, 0]], [3, 3, 0, 0]),
+            ),
         ),
         is(
             7,
             stitch(&triangle()[..3], 0.0),
-            section(&[a, b, c], &[], [2, 0, 0, 2]),
+            comparing(sum(&[0, 1, 2, 2]), section(&[a, b, c], &[], [2, 0, 0, 2])),
         ),
         is(
             8,
             stitch(&triangle(), f64::NAN),
-            section(&nan, &[], [3, 0, 0, 3]),
+            comparing(sum(&[0, 1, 2, 3, 4, 5]), section(&nan, &[], [3, 0, 0, 3])),
         ),
         is(
             9,
             stitch(&there_and_back, 0.0),
-            section(&line, &[], [3, 0, 3, 0]),
+            comparing(sum(&[0, 1, 2, 2, 3, 1]), section(&line, &[], [3, 0, 3, 0])),
         ),
         is(
             10,
             stitch(&bow_tie(), 0.0),
-            section(&bow_tie_points, &[], [6, 0, 6, 0]),
+            comparing(
+                sum(&[0, 1, 2, 2, 3, 3, 4, 2, 2, 4, 5, 1]),
+                section(&bow_tie_points, &[], [6, 0, 6, 0]),
+            ),
         ),
     ]
 }
@@ -197,14 +221,16 @@ fn placed() -> Vec<Worked> {
     ]
 }
 
-/// Case 14: the most segments and the most nodes of a PGON, and one more of each.
+/// Case 14: the most segments and the most nodes of a PGON, and one more of each. Of the chain point k is new after k
+/// comparisons, and all but the first and the last are found again after k + 1.
 fn limits() -> Vec<Worked> {
     let halved = segments(&[0.0, 0.5, 1.0, 0.5], 1);
+    let comparisons = (0..385).sum::<u32>() + (1..384).map(|k| k + 1).sum::<u32>();
     vec![
         is(
             14,
             stitch(&zigzag(385), 0.0),
-            section(&zigzag(385), &[], [384, 0, 0, 384]),
+            comparing(comparisons, section(&zigzag(385), &[], [384, 0, 0, 384])),
         ),
         is(14, stitch(&zigzag(386), 0.0), refused(8)),
         is(14, polygon(256), halved),
@@ -230,6 +256,7 @@ fn by_default() -> Vec<Worked> {
     let [a, b, c] = [[5.0, LEAST], [1.0, LEAST], [3.0, -LEAST]];
     let sides = [a, b, c, a, b, c];
     let loops = section(&[a, b, c], &[&[0, 1, 2]], [3, 3, 0, 0]);
+    let loops = comparing(sum(&[0, 1, 2, 1, 2, 3]), loops);
     let line = segments(&[2.0, 0.0, 0.0, 4.0, 0.0, 0.0], 1);
     let on_y = [0.0, -1.0, 0.0];
     vec![
@@ -282,6 +309,102 @@ fn by_default() -> Vec<Worked> {
     ]
 }
 
+/// One number an end, where they are few: the comparisons that it takes until it is found, or those with all points so far.
+fn of_comparisons() -> Vec<Worked> {
+    let number = |k: usize| NAMES.len() + BY_DEFAULT.len() + k;
+    let of = |k, list: &[[[f64; 2]; 2]], tol, comparisons, answer| {
+        is(
+            number(k),
+            stitch_list(list, tol),
+            comparing(comparisons, answer),
+        )
+    };
+    let on_x = |x: f64| [x, 0.0];
+    let [a, b, c] = [on_x(0.0), on_x(4.0), [0.0, 4.0]];
+    let triangle = [[a, b], [on_x(4.5), c], [[0.0, 4.5], [0.0, 0.5]]];
+    let second = [[a, b], [on_x(2.0), on_x(2.5)]];
+    // the third end lies nearer to the second point than to the first
+    let nearer = [[a, on_x(3.0)], [on_x(1.9), on_x(6.0)]];
+    let long: Vec<_> = zigzag(385).windows(2).map(|s| [s[0], s[1]]).collect();
+    let zeros = [[[0.0, -0.0], [-0.0, 0.0]], [[-0.0; 2], [0.0; 2]]];
+    let nan = [[a, on_x(f64::NAN)], [on_x(f64::NAN), a]];
+    let apart = |s: u32| {
+        let end = |k: u32| on_x(f64::from(k));
+        let list: Vec<_> = (0..s).map(|k| [end(2 * k), end(2 * k + 1)]).collect();
+        let answer = section(list.as_flattened(), &[], [s, 0, 0, s]);
+        of(6, &list, 0.0, s * (2 * s - 1), answer)
+    };
+    let one_point = || section(&[a], &[], [0; 4]);
+    vec![
+        of(
+            1,
+            &triangle,
+            1.0,
+            sum(&[0, 1, 2, 2, 3, 1]),
+            section(&[a, b, c], &[&[0, 1, 2]], [3, 3, 0, 0]),
+        ),
+        of(
+            2,
+            &second,
+            1.0,
+            sum(&[0, 1, 2, 3]),
+            section(&[a, b, on_x(2.0)], &[], [1, 0, 0, 1]),
+        ),
+        of(
+            3,
+            &nearer,
+            2.0,
+            sum(&[0, 1, 1, 2]),
+            section(&[a, on_x(3.0), on_x(6.0)], &[], [2, 0, 0, 2]),
+        ),
+        of(
+            4,
+            &long,
+            f64::NAN,
+            294_528,
+            section(long.as_flattened(), &[], [384, 0, 0, 384]),
+        ),
+        of(5, &long, f64::INFINITY, 767, one_point()),
+        apart(16),
+        apart(17),
+        of(
+            7,
+            &[[a, [0.0, 1.0]], [[0.0, 1.0], [1.0, 0.0]]],
+            -1.0,
+            sum(&[0, 1, 1, 1]),
+            one_point(),
+        ),
+        of(7, &zeros, 0.0, sum(&[0, 1, 1, 1]), one_point()),
+        of(
+            7,
+            &nan,
+            f64::INFINITY,
+            sum(&[0, 1, 2, 1]),
+            section(&[a, on_x(f64::NAN), on_x(f64::NAN)], &[], [2, 0, 0, 2]),
+        ),
+        tube(number(8), 16),
+        tube(number(8), 17),
+    ]
+}
+
+/// Walls around the points (k, k * k), cut at half their height. Each wall gives the segment from its point to the next, so
+/// point k is new after k comparisons and found again after k + 1.
+fn tube(number: usize, n: u32) -> Worked {
+    let points: Vec<[f64; 2]> = (0..n).map(|k| [k, k * k].map(f64::from)).collect();
+    let level = |z: f64| points.iter().flat_map(move |[x, y]| [*x, *y, z]);
+    let coords: Vec<f64> = level(0.0).chain(level(1.0)).collect();
+    let wall = |k: u32| [k, (k + 1) % n, n + (k + 1) % n, n + k].map(u64::from);
+    let walls: Vec<[u64; 4]> = (0..n).map(wall).collect();
+    let case = Case {
+        conn: walls.join(&u64::MAX),
+        ..cell(Entry::Plane, 18, &coords, &[0.0, 0.0, 0.5], &UP)
+    };
+    let nodes: Vec<u32> = (0..n).collect();
+    let comparisons = (0..n).map(|k| k + (k + 1)).sum();
+    let answer = section(&points, &[&nodes], [n, n, 0, 0]);
+    is(number, case, comparing(comparisons, answer))
+}
+
 /// The triangle, cut by the axis y = 0, which its normal or its direction gives.
 fn triangle_across(entry: Entry, high: f64, low: [f64; 2]) -> Case {
     let vector = match entry {
@@ -319,6 +442,19 @@ fn with(defaulted: u32, answer: Answer) -> Answer {
         ..answer.told
     };
     Answer { told, ..answer }
+}
+
+/// The answer with so many comparisons of points.
+fn comparing(comparisons: u32, answer: Answer) -> Answer {
+    let told = Told {
+        comparisons,
+        ..answer.told
+    };
+    Answer { told, ..answer }
+}
+
+fn sum(each: &[u32]) -> u32 {
+    each.iter().sum()
 }
 
 fn is(number: usize, case: Case, answer: Answer) -> Worked {
@@ -433,9 +569,13 @@ fn polyhedron(entry: Entry, conn: &[u64]) -> Case {
 
 /// The segments along a chain of points.
 fn stitch(chain: &[[f64; 2]], tol: f64) -> Case {
-    let numbers = chain.windows(2).flatten().flatten();
+    let list: Vec<_> = chain.windows(2).map(|s| [s[0], s[1]]).collect();
+    stitch_list(&list, tol)
+}
+
+fn stitch_list(list: &[[[f64; 2]; 2]], tol: f64) -> Case {
     Case {
-        segments: numbers.copied().collect(),
+        segments: list.as_flattened().as_flattened().to_vec(),
         tol,
         ..Case::new(Entry::Stitch)
     }
@@ -473,6 +613,7 @@ fn polygon(n: u64) -> Case {
 mod tests {
     use super::*;
     use crate::answers::answer;
+    use crate::numbers::{agree, alike};
     use oracle::Build;
 
     #[test]
@@ -481,11 +622,19 @@ mod tests {
             let counted = answer(&one.case, Build::Counted);
             assert_eq!(counted.told, one.answer.told, "case {}", one.number);
             let rust = answer(&one.case, Build::Rust);
-            assert_eq!(
-                with(counted.told.defaulted, rust.clone()).told,
-                counted.told
-            );
-            assert_eq!(rust.numbers, one.answer.numbers, "case {}", one.number);
+            let Told {
+                defaulted,
+                comparisons,
+                ..
+            } = counted.told;
+            let told = Told {
+                defaulted,
+                comparisons,
+                ..rust.told
+            };
+            assert_eq!(told, counted.told);
+            let numbers = agree(alike, &rust.numbers, &one.answer.numbers);
+            assert!(numbers, "case {}", one.number);
             assert_eq!(rust.nodes, one.answer.nodes, "case {}", one.number);
             assert_eq!(rust.ends, one.answer.ends, "case {}", one.number);
         }

@@ -12,8 +12,11 @@ type Spoil = fn(&mut Answer);
 /// One crossing in the middle by default too many.
 const DEFAULTED: Spoil = |a| a.told.defaulted += 1;
 
+/// One comparison of points too many, and one too few.
+const COMPARISONS: [Spoil; 2] = [|a| a.told.comparisons += 1, |a| a.told.comparisons -= 1];
+
 /// Each thing that is compared.
-const THINGS: [Spoil; 18] = [
+const THINGS: [Spoil; 19] = [
     |a| a.told.refusal += 1,
     |a| a.told.points += 1,
     |a| a.told.nodes += 1,
@@ -23,6 +26,7 @@ const THINGS: [Spoil; 18] = [
     |a| a.told.flat += 1,
     |a| a.told.open += 1,
     DEFAULTED,
+    COMPARISONS[0],
     // a point, a node, an end
     |a| a.numbers[3] += 1.0,
     |a| a.nodes[3] += 1,
@@ -58,7 +62,8 @@ pub fn wrong() -> Vec<Vec<u64>> {
         square(Entry::PlaneCellByDirection),
     ];
     let others = [
-        (stitch, point),
+        (stitch.clone(), point),
+        (stitch, COMPARISONS[1]),
         (tolerance(Entry::ToleranceInSpace), value),
         (tolerance(Entry::ToleranceInPlane), value),
     ];

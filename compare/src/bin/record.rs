@@ -9,7 +9,7 @@ use compare::numbers::alike;
 use compare::random::Random;
 use compare::recorded::{file, root_words, words, Group};
 use compare::roots::{sample, GROUPS};
-use compare::worked::{roots, worked_in_all_buffers, Worked, BY_DEFAULT, NAMES};
+use compare::worked::{roots, worked_in_all_buffers, Worked, BY_DEFAULT, COMPARISONS, NAMES};
 use compare::wrong::wrong;
 use oracle::Build;
 use std::process::ExitCode;
@@ -71,8 +71,8 @@ fn main() -> ExitCode {
     ExitCode::from(u8::from(differing > 0))
 }
 
-/// The worked cases by their number, and those of crossings in the middle by default by their name. Case 12, two square
-/// roots, has none here.
+/// The worked cases by their number, and those of crossings in the middle by default and of comparisons of points by their
+/// name. Case 12, two square roots, has none here.
 fn cases_worked() -> Vec<(String, Vec<Right>)> {
     let all = worked_in_all_buffers();
     let of = |number| {
@@ -82,9 +82,14 @@ fn cases_worked() -> Vec<(String, Vec<Right>)> {
     };
     let name = |(k, name)| (format!("case {}, {name}", k + 1), of(k + 1));
     let mut named: Vec<(String, Vec<Right>)> = NAMES.iter().enumerate().map(name).collect();
-    let first = NAMES.len() + 1;
-    let by_default = |(k, name)| (format!("by default, {name}"), of(first + k));
-    named.extend(BY_DEFAULT.iter().enumerate().map(by_default));
+    for (about, names) in [
+        ("by default", &BY_DEFAULT[..]),
+        ("comparisons", &COMPARISONS),
+    ] {
+        let first = named.len() + 1;
+        let name = |(k, name)| (format!("{about}, {name}"), of(first + k));
+        named.extend(names.iter().enumerate().map(name));
+    }
     named
 }
 
