@@ -286,6 +286,11 @@ mod tests {
             |case, lent| changed(case, lent, Entry::Gather, |told, _| told.defaulted += 1),
             |case, lent| changed(case, lent, Entry::Stitch, |told, _| told.comparisons += 1),
             |case, lent| changed(case, lent, Entry::Plane, |told, _| told.comparisons += 1),
+            // both of them, so that they agree
+            |case, lent| match case.entry {
+                Entry::Gather => ours(case, lent),
+                entry => changed(case, lent, entry, |told, _| told.comparisons += 1),
+            },
             |case, lent| changed(case, lent, Entry::Plane, |told, _| told.open += 1),
             |case, lent| changed(case, lent, Entry::Plane, |_, numbers| numbers[1] += 1.0),
             |case, lent| match case.entry {
