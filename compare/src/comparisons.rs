@@ -117,17 +117,16 @@ impl Weldings {
         }
     }
 
-    /// The line below a table's.
+    /// The lines below a table's.
     pub fn print(&self) {
         println!(
-            "           {} comparisons of points, at most {} (of {} segments); of {} with two segments or more {} have s(2s - 1), \
-             the most, and {} have one for each end but the first, the fewest",
-            self.comparisons,
-            self.greatest.comparisons,
-            self.greatest.segments,
-            self.several,
-            self.most,
-            self.fewest
+            "           {} comparisons of points; the most were {}, of {} segments",
+            self.comparisons, self.greatest.comparisons, self.greatest.segments
+        );
+        println!(
+            "           of {} with s segments, two or more, {} have s(2s - 1) comparisons and {} have 2s - 1, one for each \
+             end but the first",
+            self.several, self.most, self.fewest
         );
     }
 }

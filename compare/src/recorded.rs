@@ -152,6 +152,30 @@ mod tests {
     }
 
     #[test]
+    fn the_counts_stand_in_their_order() {
+        let told = Told {
+            refusal: 1,
+            points: 2,
+            nodes: 3,
+            loops: 4,
+            listed: 5,
+            in_loops: 6,
+            flat: 7,
+            open: 8,
+            defaulted: 9,
+            comparisons: 10,
+            tolerance: 0.5,
+        };
+        let answer = Answer {
+            told,
+            ..Answer::default()
+        };
+        let words = words(&Case::new(Entry::Plane), &answer);
+        let expected = [0.5f64.to_bits(), 10, 1, 2, 3, 4, 5, 6, 7, 8, 9, 10, 0, 0, 0];
+        assert!(words.ends_with(&expected), "{words:?}");
+    }
+
+    #[test]
     fn zeros_and_nan_have_one_pattern_in_what_is_expected() {
         assert_eq!(expected_bits(-0.0), 0);
         assert_eq!(expected_bits(-f64::NAN), 0x7ff8 << 48);
