@@ -136,8 +136,8 @@ impl Weldings {
 pub mod wrong {
     use super::Segment;
 
-    /// What welding comes to for an end: the number of the first point near it, if any, the number of points so far, and
-    /// that of the points before its segment.
+    /// Of an end: the number of the first point near it, if any, the number of points so far, and that of the points before
+    /// its segment.
     pub struct End {
         found: Option<usize>,
         points: usize,
@@ -153,10 +153,9 @@ pub mod wrong {
             for &[x, y] in segment {
                 let squared = |p: &[f64; 2]| (p[0] - x) * (p[0] - x) + (p[1] - y) * (p[1] - y);
                 let found = points.iter().position(|p| squared(p) <= tol * tol);
-                let points_so_far = points.len();
                 sum += of_end(&End {
                     found,
-                    points: points_so_far,
+                    points: points.len(),
                     before,
                 });
                 if found.is_none() {
