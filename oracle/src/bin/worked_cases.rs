@@ -1,4 +1,4 @@
-//! What the Rust gives for the sixteen cases that docs/RULES.md works by hand.
+//! What the Rust gives for the seventeen cases that docs/RULES.md works by hand.
 
 use oracle::counts::{counts, listed};
 use oracle::*;
@@ -28,6 +28,7 @@ fn main() {
     limits();
     gathered();
     crossings_by_default();
+    comparisons_of_points();
 }
 
 fn faces_of_phed() {
@@ -321,6 +322,29 @@ fn crossings_by_default() {
         agrees &= found == right;
     }
     verdict(agrees);
+}
+
+fn comparisons_of_points() {
+    heading("17. * Comparisons of points: case 6, 9; with the tolerance NaN 15, with infinity 5. (0,0)-(0,0): 1. With the tolerance 2, (0,0)-(3,0) and (2,0)-(0,4): 4, since (2,0) becomes (0,0), the first that is near. The plane cut of case 2: 16.");
+    let triangle = chain(&[[0, 0], [0, 1], [1, 0], [0, 0]]);
+    let one_point = chain(&[[0, 0], [0, 0]]);
+    let near_both = [chain(&[[0, 0], [3, 0]]), chain(&[[2, 0], [0, 4]])].concat();
+    let mut agrees = true;
+    for (name, segments, tol, right) in [
+        ("case 6", &triangle, 0.0, 9),
+        ("case 6, tolerance NaN", &triangle, f64::NAN, 15),
+        ("case 6, tolerance infinity", &triangle, f64::INFINITY, 5),
+        ("(0,0)-(0,0)", &one_point, 0.0, 1),
+        ("(0,0)-(3,0), (2,0)-(0,4), tolerance 2", &near_both, 2.0, 4),
+    ] {
+        let (_, found) = comparisons(|| stitch(Build::Counted, segments, tol));
+        println!("   {name}: {found}");
+        agrees &= found == right;
+    }
+    let cut = || plane_cut(Build::Counted, hex(), &[0.0, 0.0, 0.5], &UP, 0.0);
+    let (_, found) = comparisons(cut);
+    println!("   case 2: {found}");
+    verdict(agrees && found == 16);
 }
 
 fn heading(text: &str) {
