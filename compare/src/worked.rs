@@ -54,7 +54,7 @@ pub const COMPARISONS: [&str; 8] = [
     "a second end after the first of its segment",
     "the first match, not the nearest",
     "384 segments, tolerance NaN, the most",
-    "384 segments, tolerance infinite, the fewest",
+    "384 and 3 segments, tolerance infinite, the fewest",
     "16 and 17 segments apart",
     "a negative tolerance, both zeros, NaN",
     "plane cuts of tubes of 16 and 17 walls",
@@ -323,8 +323,8 @@ fn of_comparisons() -> Vec<Worked> {
     let [a, b, c] = [on_x(0.0), on_x(4.0), [0.0, 4.0]];
     let triangle = [[a, b], [on_x(4.5), c], [[0.0, 4.5], [0.0, 0.5]]];
     let second = [[a, b], [on_x(2.0), on_x(2.5)]];
-    // the third end lies nearer to the second point than to the first
-    let nearer = [[a, on_x(3.0)], [on_x(1.9), on_x(6.0)]];
+    // the third end is nearer to the second point than to the first
+    let nearer = [[a, on_x(3.0)], [on_x(2.0), c]];
     let long: Vec<_> = zigzag(385).windows(2).map(|s| [s[0], s[1]]).collect();
     let zeros = [[[0.0, -0.0], [-0.0, 0.0]], [[-0.0; 2], [0.0; 2]]];
     let nan = [[a, on_x(f64::NAN)], [on_x(f64::NAN), a]];
@@ -350,12 +350,13 @@ fn of_comparisons() -> Vec<Worked> {
             sum(&[0, 1, 2, 3]),
             section(&[a, b, on_x(2.0)], &[], [1, 0, 0, 1]),
         ),
+        of(2, &[[a, a]], 0.0, sum(&[0, 1]), one_point()),
         of(
             3,
             &nearer,
             2.0,
             sum(&[0, 1, 1, 2]),
-            section(&[a, on_x(3.0), on_x(6.0)], &[], [2, 0, 0, 2]),
+            section(&[a, on_x(3.0), c], &[], [2, 0, 0, 2]),
         ),
         of(
             4,
@@ -365,6 +366,13 @@ fn of_comparisons() -> Vec<Worked> {
             section(long.as_flattened(), &[], [384, 0, 0, 384]),
         ),
         of(5, &long, f64::INFINITY, 767, one_point()),
+        of(
+            5,
+            &triangle,
+            f64::INFINITY,
+            sum(&[0, 1, 1, 1, 1, 1]),
+            one_point(),
+        ),
         apart(16),
         apart(17),
         of(

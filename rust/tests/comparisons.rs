@@ -31,9 +31,12 @@ fn apart(many: usize) -> Vec<[[f64; 2]; 2]> {
 }
 
 /// The ends become the points 0 1, 1 2 and 2 0. Point k is new after k comparisons, and is found again after k + 1.
+/// Nothing is near with NaN, and with infinity all become point 0.
 #[test]
 fn the_triangle() {
     assert_eq!(comparisons(&triangle(), 0.), sum(&[0, 1, 2, 2, 3, 1]));
+    assert_eq!(comparisons(&triangle(), NAN), sum(&[0, 1, 2, 3, 4, 5]));
+    assert_eq!(comparisons(&triangle(), INFINITY), sum(&[0, 1, 1, 1, 1, 1]));
     assert_eq!(comparisons(&triangle()[..2], 0.), sum(&[0, 1, 2, 2]));
     assert_eq!(comparisons(&triangle()[..1], 0.), 1);
     assert_eq!(comparisons(&[], 0.), 0);
@@ -42,7 +45,7 @@ fn the_triangle() {
 /// An end is compared up to the first point that is near, which need not be the nearest, and not beyond it.
 #[test]
 fn the_first_match_ends_it() {
-    let near_both = [[[0., 0.], [3., 0.]], [[1.9, 0.], [3., 0.]]];
+    let near_both = [[[0., 0.], [3., 0.]], [[2., 0.], [0., 4.]]];
     assert_eq!(comparisons(&near_both, 2.), sum(&[0, 1, 1, 2]));
     let last = [[[0., 0.], [3., 0.]], [[6., 0.], [6., 0.]]];
     assert_eq!(comparisons(&last, 2.), sum(&[0, 1, 2, 3]));
@@ -51,6 +54,7 @@ fn the_first_match_ends_it() {
 /// The second end of the second segment is near its first end alone, which is the third point by then.
 #[test]
 fn the_second_end_is_compared_with_the_first() {
+    assert_eq!(comparisons(&[[[0., 0.]; 2]], 0.), 1);
     let segments = [[[0., 0.], [4., 0.]], [[2., 0.], [2.5, 0.]]];
     let found = stitch(&segments, 1.).unwrap();
     assert_eq!(
