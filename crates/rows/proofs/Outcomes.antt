@@ -11,16 +11,16 @@ test_failed k b o e = rw e
 pub test_passed : {A : Type 0} (k : ℕ) (b : Bool) (o : Outcome A) → b ≡ true → unless k b o ≡ o
 test_passed k b o e = rw e
 
--- what was refused was not found
-pub never_both : {A : Type 0} {k : ℕ} {a : A} → refused k ≡ found a → ⊥
-never_both e = let z : ◌≡◌ {A = ℕ} 0 1 = cc in omega arith
-
 -- a count that was found, or refused
 pub count_gave : {o : Outcome ℕ} {n k : ℕ} → o ≡ found n → k ≡ n → k ≡ told_count o
 count_gave e h = rw e h
 
 pub none_counted : {o : Outcome ℕ} {k : ℕ} → o ≡ refused k → 0 ≡ told_count o
 none_counted e = rw e
+
+-- what was refused was not found
+pub never_both : {A : Type 0} {k : ℕ} {a : A} → refused k ≡ found a → ⊥
+never_both e = let z : ◌≡◌ {A = ℕ} 0 1 = cc in omega arith
 
 module _ (lo hi : ℕ) where
   pub sound_then : {A B : Type 0} (P : A → Type 0) (Q : B → Type 0) (o : Outcome A) (next : A → Outcome B) → Sound lo hi P o
