@@ -5,6 +5,10 @@
  * them, or those before the first that is refused, whose refusal is in told. */
 #include "cicelybeam.h"
 
+/* The sizes of the answers. A library that was linked before a struct had its last field tells another, and is not used. */
+size_t size_of_section(void) { return sizeof(struct cicelybeam_section); }
+size_t size_of_line(void) { return sizeof(struct cicelybeam_line); }
+
 /* By cicelybeam_plane. */
 size_t cells_by_plane(uint8_t type, const uint64_t *conn, const uint64_t *starts, size_t cells, const double *coords,
                       size_t coords_len, const double *origin, const double *normal, double tol, double *numbers,

@@ -21,7 +21,7 @@ class Section(ctypes.Structure):
 
     _fields_ = [
         (name, c_uint32)
-        for name in ("refusal", "points", "nodes", "loops", "listed", "in_loops", "flat", "open", "defaulted")
+        for name in ("refusal", "points", "nodes", "loops", "listed", "in_loops", "flat", "open", "defaulted", "comparisons")
     ]
 
 
@@ -88,6 +88,11 @@ def _declared(lib: ctypes.CDLL) -> ctypes.CDLL:
     lib.cells_by_plane.restype = lib.cells_gathered.restype = c_size_t
     lib.cicelybeam_sqrt.argtypes = [c_double]
     lib.cicelybeam_sqrt.restype = c_double
+    for name, structure in (("section", Section), ("line", Line)):
+        size_of = getattr(lib, "size_of_" + name)
+        size_of.restype = c_size_t
+        if size_of() != ctypes.sizeof(structure):
+            raise OSError(f"struct cicelybeam_{name} has {size_of()} bytes there, and {ctypes.sizeof(structure)} in this package")
     return lib
 
 
