@@ -49,6 +49,8 @@ class Loops:
     counts: np.ndarray  # for each of them: listed, in loops, flat, open
     cell_points: np.ndarray  # for each of them: the first of its points, and the one after the last
     defaulted_by_cell: dict[int, int] = field(default_factory=dict)  # crossings that lie in the middle by default, of each cell with any, also of one that lists no edge
+    compared: np.ndarray = field(default_factory=lambda: np.zeros(0, dtype=np.int64))  # the cells with a comparison of points, also one that lists no edge
+    comparisons_by_cell: np.ndarray = field(default_factory=lambda: np.zeros(0, dtype=np.int64))  # how many each of these has
 
 
 class Cutter:
@@ -115,6 +117,8 @@ class Cutter:
         told, cells = (np.concatenate(parts) for parts in (self.told, self.cells))
         some = np.flatnonzero(told["defaulted"])
         defaulted = dict(zip(cells[some].tolist(), told["defaulted"][some].tolist()))
+        some = np.flatnonzero(told["comparisons"])
+        compared, comparisons = cells[some], told["comparisons"][some].astype(np.int64)
         kept = told["listed"] > 0
         numbers, nodes, ends = (buffer.written() for buffer in self.written)
         points = numbers.reshape(-1, 2)
@@ -127,7 +131,7 @@ class Cutter:
         nodes = nodes + np.repeat(first_point, sizes[1])
         counts = np.stack([told[name].astype(np.int64) for name in COUNTS], axis=1)
         return Loops(points, nodes, ends, np.repeat(cells, sizes[2]), cells, counts,
-                     np.stack([first_point, first_point + sizes[0]], axis=1), defaulted)
+                     np.stack([first_point, first_point + sizes[0]], axis=1), defaulted, compared, comparisons)
 
 
 def cells_with_gaps(cutter: Cutter, block: Block | Polyhedra, cells: np.ndarray, listed: np.ndarray, sides: Sides) -> np.ndarray:

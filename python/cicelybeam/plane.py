@@ -45,6 +45,8 @@ class PlaneCut(Published):
     counts: np.ndarray  # for each of them: listed, in loops, flat, open
     cell_points: np.ndarray  # for each of them: the first of its points, and the one after the last
     defaulted_by_cell: dict[int, int]  # crossings that lie in the middle by default, of each cell with any, also of one that lists no edge
+    compared: np.ndarray  # the cells with a comparison of points, also one that lists no edge
+    comparisons_by_cell: np.ndarray  # how many each of these has
     near: Frame  # the same plane, from the point of it that is nearest the mesh's middle; cells are cut from there
     asked: Asked
     record: PlaneRecord
@@ -94,6 +96,16 @@ class PlaneCut(Published):
     def defaulted_of(self, cells: np.ndarray) -> np.ndarray:
         """The same for each of these cells."""
         return np.array([self.defaulted_by_cell.get(cell, 0) for cell in cells.tolist()], dtype=np.int64)
+
+    @property
+    def comparisons(self) -> int:
+        """How many comparisons of points welding made, in all cells, of this cut alone: those of planes that were tried are not in it."""
+        return int(self.comparisons_by_cell.sum(dtype=np.int64))
+
+    def comparisons_of(self, cells: np.ndarray) -> np.ndarray:
+        """The same for each of these cells."""
+        at = np.searchsorted(self.compared, cells)
+        return np.where(np.append(self.compared, -1)[at] == cells, np.append(self.comparisons_by_cell, 0)[at], 0)
 
     def cell_area(self) -> np.ndarray:
         """The area drawn for each of `cells`."""
@@ -208,8 +220,8 @@ def cut_plane(
 def _made(section: Section) -> PlaneCut:
     rings, loops = section.rings, section.loops
     cut = PlaneCut(section.mesh, section.frame, rings.points, rings.nodes, rings.ends, rings.cell, rings.area, rings.hole, rings.outer,
-                   section.side, loops.cells, loops.counts, loops.cell_points, loops.defaulted_by_cell, section.near, section.asked,
-                   None)  # type: ignore[arg-type]
+                   section.side, loops.cells, loops.counts, loops.cell_points, loops.defaulted_by_cell, loops.compared,
+                   loops.comparisons_by_cell, section.near, section.asked, None)  # type: ignore[arg-type]
     cut.record = plane_record(cut, section)
     return cut
 

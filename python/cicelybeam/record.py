@@ -53,6 +53,15 @@ class DefaultedCell:
 
 
 @dataclass
+class ComparedCell:
+    """A cell, and how many comparisons of points were made while the ends of its segments were welded."""
+
+    cell: int
+    type: str
+    comparisons: int
+
+
+@dataclass
 class PlaneRecord:
     """The record of a plane cut. `print` it, or take `as_dict`."""
 
@@ -92,6 +101,8 @@ class PlaneRecord:
     open: int
     defaulted: int  # crossings that lie in the middle of their edges by default, also of edges that are not listed
     defaulted_cells: list[DefaultedCell]  # the cells with them
+    comparisons: int  # of points, in all cells of this cut, while the ends of segments were welded
+    most_comparisons: ComparedCell | None  # the cell with the most of them, the first of several
     with_undrawn: int  # cells with a flat or open edge
     touching_cells: int  # of the cells in undrawn, those with no area lost
     undrawn: list[UndrawnCell]
@@ -219,7 +230,11 @@ class PlaneRecord:
                 "reasons": [list(reason) for reason in self.reasons], "summary": self.sentence()}
 
     def __str__(self) -> str:
-        text = [f"{name:<18}{value}" for name, value in self._lines()]
+        return self.in_words()
+
+    def in_words(self, comparisons: bool = False) -> str:
+        """The record as it is printed, with a line for the comparisons of points where asked."""
+        text = [f"{name:<18}{value}" for name, value in self._lines(comparisons)]
         lost = self.lost_cells
         text += [f"AREA LOST         cell {u.cell} ({u.type}): about {u.lost_area:.3g}; {u.what}: {u.flat} flat and {u.open} open of "
                  f"{u.listed}, near {vector(u.points[0])}" for u in lost[:20]]
@@ -228,7 +243,7 @@ class PlaneRecord:
         text += [f"WARNING           {warning}" for warning in self.warnings]
         return "\n".join([*text, "", self.sentence()])
 
-    def _lines(self) -> list[tuple[str, str]]:
+    def _lines(self, comparisons: bool) -> list[tuple[str, str]]:
         shift = [("shift", f"{self.shift:.6g} along the normal")] if self.shift else []
         traces = [] if self.traces is None else [("traces", f"{self.traces} on the faces of {number(self.with_traces or 0, 'cell')}")]
         lines = [
@@ -244,6 +259,7 @@ class PlaneRecord:
             *traces,
             ("edges", f"{self.listed} listed: {self.in_loops} in loops, {self.flat} flat, {self.open} open"),
             ("guessed", defaulted_where(self.defaulted_cells)),
+            *([("comparisons", comparisons_in_words(self.comparisons, self.most_comparisons))] if comparisons else []),
             ("drawn", f"{number(self.polygons, 'polygon')}" + (f" with {number(self.holes, 'hole')}" if self.holes else "")),
             ("area", f"{self.area:.12g}"),
         ]
@@ -349,6 +365,29 @@ def mend_defaulted(count: int) -> str:
             "coordinates are as small as 1e-308 or so large that their differences are not finite, and mend nodes that are NaN or infinite")
 
 
+def most_comparisons(cut: PlaneCut) -> ComparedCell | None:
+    """The cell with the most comparisons of points, the first of several."""
+    if not len(cut.compared):
+        return None
+    k = int(cut.comparisons_by_cell.argmax())
+    (name,) = cut.mesh.type_of(cut.compared[k : k + 1])
+    return ComparedCell(int(cut.compared[k]), str(name), int(cut.comparisons_by_cell[k]))
+
+
+def comparisons_in_words(count: int, most: ComparedCell | None) -> str:
+    """
+    >>> comparisons_in_words(1234, ComparedCell(17, "hexahedron", 40))
+    '1234 comparisons of points; the most were 40 in cell 17 (hexahedron)'
+    >>> comparisons_in_words(1, ComparedCell(0, "polyhedron4", 1)), comparisons_in_words(0, None)
+    ('1 comparison of points, in cell 0 (polyhedron4)', 'none')
+    """
+    if most is None:
+        return "none"
+    where = f"in cell {most.cell} ({most.type})"
+    told = f"{number(count, 'comparison')} of points"
+    return f"{told}, {where}" if count == 1 else f"{told}; the most {were(most.comparisons)} {most.comparisons} {where}"
+
+
 def plane_record(cut: PlaneCut, section: Section) -> PlaneRecord:
     mesh, frame, asked = cut.mesh, cut.frame, cut.asked
     reached, rings, net = section.reached, section.rings, section.net
@@ -363,6 +402,7 @@ def plane_record(cut: PlaneCut, section: Section) -> PlaneRecord:
         lost_area=lost, lost_share=lost / (net.area + lost) if lost else 0.0,
         jump_area=section.jumps.area, jump_cells=section.jumps.cells, listed=listed, in_loops=in_loops, flat=flat, open=opened,
         defaulted=cut.defaulted, defaulted_cells=defaulted_cells(mesh, cut.defaulted_by_cell),
+        comparisons=cut.comparisons, most_comparisons=most_comparisons(cut),
         with_undrawn=int((cut.counts[:, 2:] > 0).any(axis=1).sum()), touching_cells=sum(cell.touching for cell in undrawn), undrawn=undrawn,
         crossed_without_edge=reached.no_edge.tolist(), crossed_face_without_segment=reached.no_segment.tolist(),
         within_tolerance=reached.within.tolist(), not_finite=reached.not_finite.tolist(),
