@@ -35,25 +35,28 @@ code, pre { font: 9pt/1.35 monospace; overflow-wrap: anywhere; white-space: pre-
 """
 
 
-def write_page(cut: PlaneCut | LineCut, path: str | Path, command: str | None = None, **look: object) -> None:
-    """The figure, the sentence, the record, areas, what is missing, what is proved, and how to make it again."""
+def write_page(cut: PlaneCut | LineCut, path: str | Path, command: str | None = None, comparisons: bool = False, **look: object) -> None:
+    """The figure, the sentence, the record, areas, what is missing, what is proved, and how to make it again.
+
+    With `comparisons` the record of a plane cut has their line.
+    """
     path = Path(path)
     check_suffix(path, (".html",), "a page")
     check_places(cut.mesh.source, [path])
-    text = page(cut, command, **look)
+    text = page(cut, command, comparisons, **look)
     with whole(path) as place:
         place.write_text(text, encoding="utf-8")
 
 
-def page(cut: PlaneCut | LineCut, command: str | None = None, **look: object) -> str:
+def page(cut: PlaneCut | LineCut, command: str | None = None, comparisons: bool = False, **look: object) -> str:
     name = escape(Path(cut.mesh.source).name)
     found = findings(cut)
     parts = [
         f'<!doctype html>\n<html lang="en"><head><meta charset="utf-8"><title>Section of {name}</title>\n<style>{CSS}</style></head><body>',
         f"<h1>Section of {name}</h1>", _status(cut), _figure(cut, look),
         f"<h2>In one sentence</h2><blockquote>{escape(cut.record.sentence())}</blockquote>",
-        f"<h2>The record</h2>{_record(cut)}", _areas(cut),
-        _missing(found), _proved(cut), _made(cut, command), _touched(found), _claims(), "</body></html>\n",
+        f"<h2>The record</h2>{_record(cut, comparisons)}", _areas(cut),
+        _missing(found), _proved(cut, comparisons), _made(cut, command), _touched(found), _claims(), "</body></html>\n",
     ]
     return "\n".join(parts)
 
@@ -81,8 +84,9 @@ def _figure(cut: PlaneCut | LineCut, look: dict) -> str:
     return f"<figure>{shown}</figure>"
 
 
-def _record(cut: PlaneCut | LineCut) -> str:
-    lines = str(cut.record).split("\n\n")[0].split("\n")
+def _record(cut: PlaneCut | LineCut, comparisons: bool) -> str:
+    told = cut.record.in_words(comparisons) if isinstance(cut, PlaneCut) else str(cut.record)
+    lines = told.split("\n\n")[0].split("\n")
     rows = [f"<tr><th>{escape(line[:18].strip())}</th><td>{escape(line[18:])}</td></tr>" for line in lines]
     return f"<table>{''.join(rows)}</table>"
 
@@ -132,8 +136,8 @@ def _point(numbers: list[float]) -> str:
     return "(" + ", ".join(f"{x:.9g}" for x in numbers) + ")" if numbers else ""
 
 
-def _proved(cut: PlaneCut | LineCut) -> str:
-    items = [f'<li>{escape(sentence)} <a href="#{slug(heading)}">docs/CLAIMS.md, {escape(heading)}</a></li>' for sentence, heading in proved(cut)]
+def _proved(cut: PlaneCut | LineCut, comparisons: bool) -> str:
+    items = [f'<li>{escape(sentence)} <a href="#{slug(heading)}">docs/CLAIMS.md, {escape(heading)}</a></li>' for sentence, heading in proved(cut, comparisons)]
     return f"<h2>What is proved, and what is not</h2><ol>{''.join(items)}</ol>"
 
 

@@ -56,8 +56,11 @@ def sha256(path: Path) -> str:
     return found.hexdigest()
 
 
-def proved(cut: PlaneCut | LineCut) -> list[tuple[str, str]]:
-    """What is proved about a cut and what is not, in sentences, each with the heading of docs/CLAIMS.md that says more."""
+def proved(cut: PlaneCut | LineCut, comparisons: bool) -> list[tuple[str, str]]:
+    """What is proved about a cut and what is not, in sentences, each with the heading of docs/CLAIMS.md that says more.
+
+    `comparisons`: whether the report tells how many comparisons of points a plane cut took.
+    """
     if isinstance(cut, PlaneCut):
         edges = ("Proved: every polygon that a cell gives is closed by edges of the cut, each of which is used once; and every edge "
                  "that a cell lists is counted as drawn, flat or open, so that none is lost unseen.")
@@ -67,10 +70,13 @@ def proved(cut: PlaneCut | LineCut) -> list[tuple[str, str]]:
     traces = [("Proved: the segments of a cell's faces, each face handed over alone, are those that its section is stitched from.", "Promises")]
     defaulted = [("Proved: each cell's number of crossings that lie in the middle of their edges by default is that of the rules of the port.",
                   "Promises")]
+    compared = [("Proved: each cell's number of comparisons of points is that of the rules of the port, at most s(2s - 1) for s segments.",
+                 "Promises")]
     return [
         (edges, "The auditor's two questions" if isinstance(cut, PlaneCut) else "Promises"),
         *(traces if isinstance(cut, PlaneCut) and cut.record.traces is not None else []),
         *(defaulted if cut.record.defaulted else []),
+        *(compared if isinstance(cut, PlaneCut) and comparisons else []),
         ("Proved: a cell with all corners on one side of the cut, beyond the tolerance, has no edge in it, so that it is right to "
          "leave it out.", "Promises"),
         ("Not proved: an edge that a face does not give is in no count; the package looks for such faces and tells them, by tests "

@@ -24,7 +24,7 @@ from .undrawn import findings, undrawn_edges
 from .vtp import traces_vtp, vtp
 
 PLANE_COLUMNS = ("polygon", "cell", "type", "group", "area", "hole_of", "side", "point", "x", "y", "z", "u", "v")
-CELL_COLUMNS = ("cell", "type", "group", "listed", "in_loops", "flat", "open", "defaulted", "area", "x", "y", "z")
+CELL_COLUMNS = ("cell", "type", "group", "listed", "in_loops", "flat", "open", "defaulted", "comparisons", "area", "x", "y", "z")
 TRACE_COLUMNS = ("cell", "type", "group", "face", "u1", "v1", "u2", "v2", "x1", "y1", "z1", "x2", "y2", "z2")
 OF_RING = ("area", "side", "hole_of")  # what a ring has beside its cell's data
 SIDES = {0: "", 1: "above", -1: "below"}
@@ -53,7 +53,7 @@ def as_dict(cut: PlaneCut | LineCut, command: str | None = None) -> dict:
     """All that the reports tell, as plain numbers, lists and words."""
     found = cut.record.as_dict()
     found["made_by"] = origin_of(cut, command)
-    found["proved"] = [sentence for sentence, _ in proved(cut)]
+    found["proved"] = [sentence for sentence, _ in proved(cut, comparisons=True)]
     found["missing"] = [finding.as_dict() for finding in findings(cut)]
     if isinstance(cut, PlaneCut):
         found.update(tables(cut))
@@ -158,9 +158,10 @@ def rings(cut: PlaneCut) -> list[dict]:
 def cell_rows(cut: PlaneCut) -> list[tuple]:
     """A row for each cell that lists an edge; x, y, z is the mean of the points that the cut gives for it."""
     return [
-        (cell, str(name), group, *counts, defaulted, area, *middle) for cell, name, group, counts, defaulted, area, middle in zip(
-            cut.cells.tolist(), cut.mesh.type_of(cut.cells), group_names(cut, cut.cells), cut.counts.tolist(),
-            cut.defaulted_of(cut.cells).tolist(), cut.cell_area().tolist(), cut.cell_middle_in_space().tolist())
+        (cell, str(name), group, *counts, defaulted, comparisons, area, *middle)
+        for cell, name, group, counts, defaulted, comparisons, area, middle in zip(
+            cut.cells.tolist(), cut.mesh.type_of(cut.cells), group_names(cut, cut.cells), cut.counts.tolist(), cut.defaulted_of(cut.cells).tolist(),
+            cut.comparisons_of(cut.cells).tolist(), cut.cell_area().tolist(), cut.cell_middle_in_space().tolist())
     ]
 
 
@@ -208,7 +209,8 @@ def cell_data(cut: PlaneCut, cells: np.ndarray, others: tuple[str, ...] = OF_RIN
     at = np.searchsorted(cut.cells, cells)
     listed = np.append(cut.cells, -1)[at] == cells
     counts = np.where(listed[:, None], np.append(cut.counts, [[0, 0, 0, 0]], axis=0)[at], 0)
-    data = {"cell": cells.astype(np.int64), **{name: counts[:, k] for k, name in enumerate(COUNTS)}, "defaulted": cut.defaulted_of(cells)}
+    data = {"cell": cells.astype(np.int64), **{name: counts[:, k] for k, name in enumerate(COUNTS)}, "defaulted": cut.defaulted_of(cells),
+            "comparisons": cut.comparisons_of(cells)}
     own = {*data, *others}
     for name, values in cut.mesh.fields.items():
         shown = name

@@ -105,7 +105,7 @@ def test_json_has_the_same_facts(whole, tmp_path):
     made = found["made_by"]
     assert made["mesh_sha256"] == hashlib.sha256(whole.read_bytes()).hexdigest() and len(made["library_sha256"]) == 64
     assert {"command", "date", "versions"} <= set(made) and made["versions"]["meshio"] == meshio.__version__
-    assert len(found["proved"]) == 4 and "missing" in found and "area_by_group" in found
+    assert len(found["proved"]) == 5 and "missing" in found and "area_by_group" in found
 
 
 def test_what_is_missing_is_listed(broken, tmp_path, monkeypatch):
