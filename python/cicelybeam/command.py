@@ -14,7 +14,9 @@ from .groups import check_by
 from .line import LineCut, cut_line
 from .outputs import PICTURES, POLYGONS, REPORTS, SHOWN, TRACES, check_places, check_suffix
 from .plane import PlaneCut, cut_plane
+from .record import comparisons_in_words
 from .refusal import CicelybeamError
+from .times import Times
 from .version import VERSION
 
 STATUS = """\
@@ -51,6 +53,9 @@ terms:
   open      edges of walks that do not close, not drawn
   guessed   crossings that lie in the middle of their edges by default: the distances of an edge's ends from the plane
             differ by NaN or by no more than 2^-1022
+  comparisons
+            of points, with --timing: welding compares each end of a trace with the points of its cell so far, up to and
+            with the first within the tolerance
 """
 
 LINE_TERMS = """\
@@ -145,6 +150,9 @@ def _parser() -> argparse.ArgumentParser:
         "what the picture has lines for: the polygons' edges, or every trace, with a dot at each end"))
     plane.add_argument("--vtk", type=Path, metavar="FILE", help=(
         "the polygons, with fields of cells and of nodes: .vtp (with the edges that are not drawn), .vtu, .vtk, .ply or .obj"))
+    plane.add_argument("--timing", action=_Flag, help=(
+        "print the number of comparisons of points, and tell on standard error how long reading, cutting and each output took"))
+    line.add_argument("--timing", action=_Flag, help="tell on standard error how long reading, cutting and each output took")
     return parser
 
 
@@ -233,29 +241,58 @@ def _size(text: str) -> tuple[float, ...]:
 
 def _run(given: argparse.Namespace) -> int:
     _check_outputs(given)
-    mesh = meshes.read(given.mesh)
+    times = Times()
+    with times.of("reading"):
+        mesh = meshes.read(given.mesh)
     if given.picture or given.report:
         check_by(mesh, given.colour)
-    cut = _cut(given, mesh)
+    with times.of("cutting"):
+        cut = _cut(given, mesh)
     if isinstance(cut, PlaneCut) and (given.traces or given.show == "traces"):
-        cut.traces()  # before the record is told, which has their number
-    if given.quiet or _to_screen(given):
+        with times.of("traces"):
+            cut.traces()  # before the record is told, which has their number
+    if _silent(given):
         for warning in cut.record.warnings:
             print(f"cicelybeam: {warning}", file=sys.stderr)
     else:
-        _print(record_in_words(cut))
-    _write(given, cut)
+        _print(record_in_words(cut, comparisons=given.timing))
+    _write(given, cut, times)
+    if given.timing:
+        _tell_times(given, cut, times)
     status, reasons = _status(given, cut)
     for why in reasons:
         print(f"cicelybeam: {why}", file=sys.stderr)
     return status
 
 
-def record_in_words(cut: PlaneCut | LineCut) -> str:
-    """The record, with a line for each group where the mesh has groups."""
-    lines, sentence = str(cut.record).rsplit("\n\n", 1)
+def record_in_words(cut: PlaneCut | LineCut, comparisons: bool = False) -> str:
+    """The record, with a line for each group where the mesh has groups; of a plane cut with the comparisons of points where asked."""
+    told = cut.record.in_words(comparisons) if isinstance(cut, PlaneCut) else str(cut.record)
+    lines, sentence = told.rsplit("\n\n", 1)
     groups = cut.area_by("group") if isinstance(cut, PlaneCut) and cut.mesh.group is not None else {}
     return "\n".join([lines, *(f"{'group':<18}{name}: {area:.12g}" for name, area in groups.items()), "", sentence])
+
+
+def _silent(given: argparse.Namespace) -> bool:
+    """Whether the record is not printed."""
+    return given.quiet or _to_screen(given)
+
+
+def _tell_times(given: argparse.Namespace, cut: PlaneCut | LineCut, times: Times) -> None:
+    """How long each part took. On standard error, since the record is the same at each run, and standard output may be a report.
+
+    The comparisons of points stand here only where no record is printed that has them.
+    """
+    lines, held = [], {}
+    if isinstance(cut, PlaneCut):
+        record = cut.record
+        if _silent(given):
+            lines.append(f"{'comparisons':<18}{comparisons_in_words(record.comparisons, record.most_comparisons)}")
+        if record.shift or record.shift_most is not None:
+            held["cutting"] = "the search for a shift"
+    if given.report and given.report.suffix.lower() == ".html":
+        held["report"] = "its figure"
+    print("\n".join([*lines, *times.lines(held)]), file=sys.stderr)
 
 
 def _to_screen(given: argparse.Namespace) -> bool:
@@ -326,30 +363,43 @@ class _Bar:
             self.bar.close()
 
 
-def _write(given: argparse.Namespace, cut: PlaneCut | LineCut) -> None:
-    from . import report
-
+def _write(given: argparse.Namespace, cut: PlaneCut | LineCut, times: Times) -> None:
     look = {"colour": given.colour, "title": given.title, "size": given.size, "dpi": given.dpi, "edges": given.edges,
             "show": getattr(given, "show", SHOWN[0])}
+    if given.report:
+        with times.of("report"):
+            _write_report(given, cut, look)
+    if isinstance(cut, PlaneCut):
+        from . import report
+
+        if given.table:
+            with times.of("table"):
+                report.write_table(cut, given.table)
+        if given.traces:
+            with times.of("traces"):
+                report.write_traces(cut.traces(), given.traces)
+        if given.vtk:
+            with times.of("vtk"):
+                report.write_polygons(cut, given.vtk)
+    if given.picture:
+        with times.of("figure"):
+            from .picture import draw
+
+            draw(cut, given.picture, **look)
+
+
+def _write_report(given: argparse.Namespace, cut: PlaneCut | LineCut, look: dict) -> None:
+    from . import report
+
     command = shlex.join(["cicelybeam", *given.words])
     if _to_screen(given):
         _print(report.as_json(cut, command))
-    elif given.report and given.report.suffix.lower() == ".html":
+    elif given.report.suffix.lower() == ".html":
         from .page import write_page
 
-        write_page(cut, given.report, command, **look)
-    elif given.report:
+        write_page(cut, given.report, command, comparisons=given.timing, **look)
+    else:
         report.write_report(cut, given.report, command, given.colour)
-    if isinstance(cut, PlaneCut) and given.table:
-        report.write_table(cut, given.table)
-    if isinstance(cut, PlaneCut) and given.traces:
-        report.write_traces(cut.traces(), given.traces)
-    if isinstance(cut, PlaneCut) and given.vtk:
-        report.write_polygons(cut, given.vtk)
-    if given.picture:
-        from .picture import draw
-
-        draw(cut, given.picture, **look)
 
 
 def _status(given: argparse.Namespace, cut: PlaneCut | LineCut) -> tuple[int, list[str]]:
