@@ -288,7 +288,7 @@ def _tell_times(given: argparse.Namespace, cut: PlaneCut | LineCut, times: Times
         record = cut.record
         if _silent(given):
             lines.append(f"{'comparisons':<18}{comparisons_in_words(record.comparisons, record.most_comparisons)}")
-        if record.shift or record.shift_most is not None:
+        if record.shift or record.shift_most is not None and record.tolerance >= record.mesh_tolerance:  # below it none is looked for
             held["cutting"] = "the search for a shift"
     if given.report and given.report.suffix.lower() == ".html":
         held["report"] = "its figure"

@@ -19,7 +19,8 @@ class Published:
     def write(self, path: str | Path, **look: object) -> None:
         """A report (.html, .json, .csv), the polygons (.vtp, .vtu, .vtk, .ply, .obj) or a picture, by the suffix.
 
-        Options are those of `draw`, for the figure in a page; `colour` names the field in the rows of a line cut.
+        Options are those of `draw`, for the figure in a page; `colour` names the field in the rows of a line cut. With `comparisons=True`
+        the page of a plane cut has the line of comparisons of points.
         """
         from . import page, report
         from .plane import PlaneCut

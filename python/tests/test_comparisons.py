@@ -332,6 +332,8 @@ def test_what_else_a_time_holds(tmp_path, capsys, clock):
     assert "\ncutting           0.250 s, with the search for a shift\ntraces            0.250 s\nreport            0.250 s, with its figure\n" in said
     assert run(*command, "--shift") == 0
     assert capsys.readouterr().err.endswith("\ncutting           0.250 s, with the search for a shift\n")
+    assert run(*command, "--shift", "--tolerance", 1e-17) == 3  # below the mesh's own, where none is looked for
+    assert "\ncutting           0.250 s\ncicelybeam: exit status 3: " in capsys.readouterr().err
 
 
 @pytest.mark.parametrize("more", [["--quiet"], ["--report", "-"], ["--quiet", "--report", "-"]])
