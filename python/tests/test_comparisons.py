@@ -379,7 +379,8 @@ def test_a_line_has_times_alone(path, tmp_path, capsys, clock):
 
 def test_no_times_where_there_is_no_cut(path, tmp_path, capsys):
     assert run("plane", tmp_path / "none.vtu", *ALONG, "--timing") == 1
-    assert capsys.readouterr().err.startswith("cicelybeam: ")
+    said = capsys.readouterr()
+    assert said.out == "" and said.err.startswith("cicelybeam: ") and said.err.count("\n") == 1
 
 
 def test_the_time_of_a_run(path, tmp_path):
@@ -428,20 +429,24 @@ def test_fields_of_files(tmp_path):
     assert sorted(np.concatenate(meshio.read(tmp_path / "a.vtu").cell_data["comparisons"]).tolist()) == [9, 16]
 
 
+def without_claims(page: Path) -> str:
+    """The words of a page, without the text of docs/CLAIMS.md."""
+    return words(page.read_text().split('<div class="screen"><hr>')[0])
+
+
 def test_the_page(path, tmp_path):
     """The line and what is proved of it stand there with the option alone, and no times."""
     for more, times_told in ((["--timing"], 1), ([], 0)):
         assert run("plane", path, *ALONG, "--quiet", "--report", tmp_path / "a.html", *more) == 0
-        text = (tmp_path / "a.html").read_text().split('<div class="screen"><hr>')[0]  # without the text of docs/CLAIMS.md
-        parsed(text.replace("</body></html>", "") + "</body></html>")
-        said = words(text)
+        parsed((tmp_path / "a.html").read_text())
+        said = without_claims(tmp_path / "a.html")
         assert said.count("comparisons 16 comparisons of points; the most were 16 in cell 0 (hexahedron)") == times_told
         assert said.count("Proved: each cell's number of comparisons of points is that of the rules of the port") == times_told
         assert ("comparison" in said) == bool(times_told) and not re.search(r"\d\.\d{3} s\b", said)
     cicelybeam.cut_plane(cicelybeam.read(path), *MIDDLE).write(tmp_path / "b.html", comparisons=True)
-    assert "comparisons 16 comparisons of points" in words((tmp_path / "b.html").read_text())
+    assert "comparisons 16 comparisons of points" in without_claims(tmp_path / "b.html")
     run("line", path, "--origin", "0,0.5,0.5", "--direction", "x", "--quiet", "--timing", "--report", tmp_path / "c.html")
-    assert "comparison" not in words((tmp_path / "c.html").read_text().split('<div class="screen"><hr>')[0])
+    assert "comparison" not in without_claims(tmp_path / "c.html")
 
 
 def test_the_csv_of_rings_is_as_it_was(path, tmp_path):
@@ -454,7 +459,9 @@ def test_the_csv_of_rings_is_as_it_was(path, tmp_path):
 def test_help(command, capsys):
     with pytest.raises(SystemExit):
         run(command, "--help")
-    said = " ".join(capsys.readouterr().out.split())
+    said = capsys.readouterr().out
+    assert ("\n  comparisons\n            of points, with --timing: " in said) == (command == "plane")
+    said = " ".join(said.split())
     assert "how long reading, cutting and each output took" in said and ("comparisons of points" in said) == (command == "plane")
 
 
