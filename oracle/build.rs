@@ -3,8 +3,8 @@
 //!
 //! slice.rs is built four times: as it stands; counting the crossings that lie in the middle by
 //! default and the comparisons of points while welding; with that and the junction comparing
-//! cosines; and with both and sums that start at plus zero. One line is appended to each copy, so that src/reach.rs becomes a child of the
-//! module and can call its private functions.
+//! cosines; and with both and sums that start at plus zero. One line is appended to each copy, so
+//! that src/reach.rs becomes a child of the module and can call its private functions.
 //!
 //! The source must be the one that pinned.sha256 has the checksums of: the two files, and those
 //! of mefikit's mesh that the stand-ins were written after.
