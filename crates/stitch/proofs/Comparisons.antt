@@ -4,7 +4,7 @@ use mathlib.Core.Path.{◌≡◌, refl}
 use Prim.Native.Nat.{ℕ, ◌/◌, ◌≤◌}
 use mathlib.Core.List.{List}
 use native.Mathlib.Omega.{arith}
-use lib.Ieee.{Float, nan}
+use lib.Ieee.{Float, mul, nan}
 use lib.ListN.{length}
 use Rattle.rows.specs.Outcome.{found, refused, told_count}
 use Rattle.rows.proofs.Outcomes.{sound_then, told_then}
@@ -46,4 +46,5 @@ stitch_few xs tol l =
 -- ---- how many there can be
 
 pub nan_compared : NanCompared
+unfolding mul
 nan_compared ss = most_compared nan none_near_nan ss

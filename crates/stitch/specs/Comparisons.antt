@@ -44,4 +44,4 @@ FewCompared = (xs : List Float) (tol : Float) (l : Lengths) → told_count (stit
 
 -- the most, by a tolerance that is NaN: no end is near a point
 abbrev pub NanCompared : Type 0
-NanCompared = (ss : List Seg) → comparisons nan ss ≡ length ss * (2 * length ss - 1)
+NanCompared = (ss : List Seg) → comparisons (rule_of nan).tol2 ss ≡ length ss * (2 * length ss - 1)

@@ -54,12 +54,13 @@ compared_most tol2 (seg p q ∷ ss) qs =
       mul-le-mul_left (length ss) l,
     )
 
-without : (c k : ℕ) → c + k ≤ 2 * (k * k) → c ≤ k * (2 * k - 1)
-without c zero h = omega arith
-without c (suc k) h = let e : 2 * suc k - 1 ≡ suc (2 * k) = omega arith in rw e (omega arith)
+-- that sum, without a difference
+most : (s : ℕ) → s * (2 * s - 1) + s ≡ 2 * (s * s)
+most zero = refl
+most (suc s) = let e : 2 * suc s - 1 ≡ suc (2 * s) = omega arith in rw e (omega arith)
 
 pub comparisons_few : (tol2 : Float) (ss : List Seg) → comparisons tol2 ss ≤ length ss * (2 * length ss - 1)
-comparisons_few tol2 ss = without (comparisons tol2 ss) (length ss) (omega (arith, compared_most tol2 ss []))
+comparisons_few tol2 ss = omega (arith, compared_most tol2 ss [], most (length ss))
 
 -- those of 384 segments are a number of 32 bits
 pub most_of_384 : (c s : ℕ) → c ≤ s * (2 * s - 1) → s ≤ 384 → c ≤ 294528
@@ -117,11 +118,7 @@ module _ (tol2 : Float) (apart : (p q : Vector) → near p tol2 q ≡ false) whe
       omega (arith, r, compared_all p qs, compared_all q (push p tol2 qs), a)
 
   pub most_compared : (ss : List Seg) → comparisons tol2 ss ≡ length ss * (2 * length ss - 1)
-  most_compared ss = exactly (comparisons tol2 ss) (length ss) (omega (arith, all_compared ss []))
-    where
-      exactly : (c k : ℕ) → c + k ≡ 2 * (k * k) → c ≡ k * (2 * k - 1)
-      exactly c zero h = omega (arith, h)
-      exactly c (suc k) h = let e : 2 * suc k - 1 ≡ suc (2 * k) = omega arith in rw e (omega (arith, h))
+  most_compared ss = omega (arith, all_compared ss [], most (length ss))
 
 -- a distance is at most no NaN
 pub none_near_nan : (p q : Vector) → near p nan q ≡ false
