@@ -50,7 +50,7 @@ class Loops:
     cell_points: np.ndarray  # for each of them: the first of its points, and the one after the last
     defaulted_by_cell: dict[int, int] = field(default_factory=dict)  # crossings that lie in the middle by default, of each cell with any, also of one that lists no edge
     compared: np.ndarray = field(default_factory=lambda: np.zeros(0, dtype=np.int64))  # the cells with a comparison of points, also one that lists no edge
-    comparisons_by_cell: np.ndarray = field(default_factory=lambda: np.zeros(0, dtype=np.int64))  # how many each of these has
+    compared_counts: np.ndarray = field(default_factory=lambda: np.zeros(0, dtype=np.int64))  # for each of them: how many
 
 
 class Cutter:

@@ -397,7 +397,7 @@ def _write_report(given: argparse.Namespace, cut: PlaneCut | LineCut, look: dict
     elif given.report.suffix.lower() == ".html":
         from .page import write_page
 
-        write_page(cut, given.report, command, comparisons=given.timing, **look)
+        write_page(cut, given.report, command, comparisons=given.timing and isinstance(cut, PlaneCut), **look)
     else:
         report.write_report(cut, given.report, command, given.colour)
 

@@ -14,6 +14,7 @@ from .line import LineCut
 from .outputs import check_places, check_suffix, whole
 from .plane import PlaneCut
 from .provenance import origin_of, proved
+from .refusal import CicelybeamError
 from .undrawn import Finding, findings
 
 MOST_ON_PAPER = 500  # touched cells
@@ -42,6 +43,8 @@ def write_page(cut: PlaneCut | LineCut, path: str | Path, command: str | None = 
     """
     path = Path(path)
     check_suffix(path, (".html",), "a page")
+    if comparisons and not isinstance(cut, PlaneCut):
+        raise CicelybeamError("a line cut has no comparisons of points to tell: leave comparisons=True out")
     check_places(cut.mesh.source, [path])
     text = page(cut, command, comparisons, **look)
     with whole(path) as place:

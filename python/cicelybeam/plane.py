@@ -46,7 +46,7 @@ class PlaneCut(Published):
     cell_points: np.ndarray  # for each of them: the first of its points, and the one after the last
     defaulted_by_cell: dict[int, int]  # crossings that lie in the middle by default, of each cell with any, also of one that lists no edge
     compared: np.ndarray  # the cells with a comparison of points, also one that lists no edge
-    comparisons_by_cell: np.ndarray  # how many each of these has
+    compared_counts: np.ndarray  # for each of them: how many
     near: Frame  # the same plane, from the point of it that is nearest the mesh's middle; cells are cut from there
     asked: Asked
     record: PlaneRecord
@@ -94,18 +94,23 @@ class PlaneCut(Published):
         return sum(self.defaulted_by_cell.values())
 
     def defaulted_of(self, cells: np.ndarray) -> np.ndarray:
-        """The same for each of these cells."""
+        """How many crossings each of these cells has that lie in the middle of their edge by default."""
         return np.array([self.defaulted_by_cell.get(cell, 0) for cell in cells.tolist()], dtype=np.int64)
 
     @property
     def comparisons(self) -> int:
         """How many comparisons of points welding made, in all cells, of this cut alone: those of planes that were tried are not in it."""
-        return int(self.comparisons_by_cell.sum(dtype=np.int64))
+        return int(self.compared_counts.sum(dtype=np.int64))
+
+    @property
+    def comparisons_by_cell(self) -> dict[int, int]:
+        """How many each cell with any has, also one that lists no edge."""
+        return dict(zip(self.compared.tolist(), self.compared_counts.tolist()))
 
     def comparisons_of(self, cells: np.ndarray) -> np.ndarray:
-        """The same for each of these cells."""
+        """How many comparisons of points each of these cells has."""
         at = np.searchsorted(self.compared, cells)
-        return np.where(np.append(self.compared, -1)[at] == cells, np.append(self.comparisons_by_cell, 0)[at], 0)
+        return np.where(np.append(self.compared, -1)[at] == cells, np.append(self.compared_counts, 0)[at], 0)
 
     def cell_area(self) -> np.ndarray:
         """The area drawn for each of `cells`."""
@@ -221,7 +226,7 @@ def _made(section: Section) -> PlaneCut:
     rings, loops = section.rings, section.loops
     cut = PlaneCut(section.mesh, section.frame, rings.points, rings.nodes, rings.ends, rings.cell, rings.area, rings.hole, rings.outer,
                    section.side, loops.cells, loops.counts, loops.cell_points, loops.defaulted_by_cell, loops.compared,
-                   loops.comparisons_by_cell, section.near, section.asked, None)  # type: ignore[arg-type]
+                   loops.compared_counts, section.near, section.asked, None)  # type: ignore[arg-type]
     cut.record = plane_record(cut, section)
     return cut
 

@@ -369,9 +369,9 @@ def most_comparisons(cut: PlaneCut) -> ComparedCell | None:
     """The cell with the most comparisons of points, the first of several."""
     if not len(cut.compared):
         return None
-    k = int(cut.comparisons_by_cell.argmax())
+    k = int(cut.compared_counts.argmax())
     (name,) = cut.mesh.type_of(cut.compared[k : k + 1])
-    return ComparedCell(int(cut.compared[k]), str(name), int(cut.comparisons_by_cell[k]))
+    return ComparedCell(int(cut.compared[k]), str(name), int(cut.compared_counts[k]))
 
 
 def comparisons_in_words(count: int, most: ComparedCell | None) -> str:

@@ -70,7 +70,7 @@ def check(cut) -> None:
             assert made <= told.segments * max(2 * told.segments - 1, 0)
             if made:
                 expected[block.first + k] = made
-    assert dict(zip(cut.compared.tolist(), cut.comparisons_by_cell.tolist())) == expected and len(cut.compared) == len(expected)
+    assert cut.comparisons_by_cell == expected and len(cut.compared) == len(cut.compared_counts) == len(expected)
     every = np.arange(cut.mesh.total)
     assert cut.comparisons_of(every).tolist() == [expected.get(cell, 0) for cell in every.tolist()]
     assert {*cut.cells.tolist()} <= {*expected}
@@ -87,7 +87,7 @@ def check(cut) -> None:
 @pytest.mark.parametrize("tol", [None, 0, 1e-9])
 def test_a_brick_in_its_middle(tol):
     cut = cicelybeam.cut_plane(box(1), *MIDDLE, tol)
-    assert cut.comparisons == BRICK == 16 and cut.compared.tolist() == [0] and cut.comparisons_by_cell.tolist() == [16]
+    assert cut.comparisons == BRICK == 16 and cut.comparisons_by_cell == {0: 16}
     check(cut)
 
 
@@ -99,14 +99,14 @@ def test_a_tetrahedron():
 
 def test_two_cells_of_two_types():
     cut = cicelybeam.cut_plane(brick_and_tetra(), *MIDDLE)
-    assert cut.comparisons_by_cell.tolist() == [TETRAHEDRON, BRICK] and cut.comparisons == 25
+    assert cut.comparisons_by_cell == {0: TETRAHEDRON, 1: BRICK} and cut.comparisons == 25
     assert cut.record.most_comparisons == ComparedCell(1, "hexahedron", 16)
     check(cut)
 
 
 def test_the_first_of_several_cells_with_the_most():
     cut = cicelybeam.cut_plane(box(2), (0, 0, 0.25), (0, 0, 1))
-    assert cut.comparisons == 4 * BRICK and cut.compared.tolist() == [0, 2, 4, 6]
+    assert cut.comparisons == 4 * BRICK and cut.comparisons_by_cell == dict.fromkeys([0, 2, 4, 6], BRICK)
     assert cut.record.most_comparisons == ComparedCell(0, "hexahedron", BRICK)
     check(cut)
 
@@ -116,7 +116,7 @@ def test_a_cell_whose_ends_become_one_point():
     points = np.concatenate([FLAT, CUBE + [3, 3, -0.5]])
     mesh = meshio.Mesh(points, [("polyhedron3", [[np.arange(3)]]), ("hexahedron", [list(range(3, 11))])])
     cut = cicelybeam.cut_plane(mesh, (0, 0, 0), (0, 0, 1), 0.1)
-    assert cut.cells.tolist() == [1] and cut.compared.tolist() == [0, 1] and cut.comparisons_by_cell.tolist() == [1, BRICK]
+    assert cut.cells.tolist() == [1] and cut.comparisons_by_cell == {0: 1, 1: BRICK}
     assert [row["comparisons"] for row in report.as_dict(cut)["by_cell"]] == [BRICK] and cut.record.comparisons == 1 + BRICK
     check(cut)
 
@@ -233,7 +233,7 @@ def test_a_sum_beyond_32_bits(many, tmp_path):
     cut = cicelybeam.cut_plane(box(2), (0, 0, 0.25), (0, 0, 1))
     assert cut.comparisons == cut.record.comparisons == 4 * MOST > 2**32 and type(cut.comparisons) is type(cut.record.comparisons) is int
     assert comparisons_line(cut.record.in_words(comparisons=True)) == f"{4 * MOST} comparisons of points; the most were {MOST} in cell 0 (hexahedron)"
-    narrow = replace(cut, comparisons_by_cell=np.full(4, MOST, dtype=np.uint32))
+    narrow = replace(cut, compared_counts=np.full(4, MOST, dtype=np.uint32))
     assert narrow.comparisons == 4 * MOST
     for name in ("a.json", "a.vtp"):
         cut.write(tmp_path / name)
@@ -465,7 +465,7 @@ def test_help(command, capsys):
     assert "how long reading, cutting and each output took" in said and ("comparisons of points" in said) == (command == "plane")
 
 
-# ---- libraries of other days
+# ---- an older library
 
 STUBS = "".join(f"void cicelybeam_{name}(void) {{}}\n" for name in (
     "plane", "gather", "stitch", "line_in_space", "plane_cell_by_normal", "plane_cell_by_direction", "tolerance_in_space", "tolerance_in_plane", "sqrt"))

@@ -9,7 +9,7 @@ use lib.Dec.{eqb}
 use lib.Ieee.{Float}
 use lib.ListN.{length}
 use Rattle.rows.specs.Outcome.{Outcome, refused, found, and_then, unless, Sound}
-use Rattle.rows.proofs.Outcomes.{sound_then}
+use Rattle.rows.proofs.Outcomes.{sound_then, sound_unless}
 use Rattle.vector.specs.declared.Plane.{Plane}
 use Rattle.cell.specs.Types.{allow, space_type}
 use Rattle.cell.specs.Read.{Polygon, Typed, untyped, typed, are_rows, polygons, read_as, polygons_of, corners_of, Accepted}
@@ -84,3 +84,12 @@ pub space_cut_sound : {A : Type 0} (P : A → Type 0) (k : Cell) (way : Way) (g 
 space_cut_sound P k way g work =
     cut_sound P (λ f. frame_by way g.origin g.vector ≡ Some f) 3 (typed_in_space (space_type k.cell_type)) k.conn k.coords (place_in way g) work
     (place_sound way g)
+
+-- and if the work gives, where there is room, what is made of the polygons
+pub made_sound : {A : Type 0} (P : A → Type 0) (k : Cell) (way : Way) (g : Through) (room : ℕ → Bool) (made : List Polygon → Plane → A)
+    → ((ps : List Polygon) → space_cell k ≡ found ps → (f : Plane) → frame_by way g.origin g.vector ≡ Some f → P (made ps f))
+    → Sound 1 7 P (cut_cell (space_cell k) (place_in way g) (λ m ps f. unless 7 (room m) (found (made ps f))))
+made_sound P k way g room made h =
+    space_cut_sound P k way g (λ m ps f. unless 7 (room m) (found (made ps f)))
+    (λ ps r f e.
+    sound_unless 1 7 P 7 (room (length (flatten ps))) (found (made ps f)) (omega arith) (omega arith) (λ _. h ps r f e))

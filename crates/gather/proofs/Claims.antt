@@ -7,7 +7,6 @@ use lib.Dec.{leb}
 use lib.Ieee.{Float}
 use lib.ListN.{length}
 use Rattle.rows.specs.Outcome.{Outcome, refused, found, Sound}
-use Rattle.rows.proofs.Outcomes.{sound_unless}
 use Rattle.vector.specs.declared.Plane.{Plane}
 use Rattle.vector.specs.Rows.{Seg}
 use Rattle.cell.specs.Read.{Polygon, Cell, corners_of, space_cell}
@@ -18,7 +17,7 @@ use Rattle.clip.proofs.Written.{segments_count}
 use Rattle.cuts.specs.Cuts.{Through, cut_cell, place_in, segments_on}
 use Rattle.cuts.specs.Lines.{told_line}
 use Rattle.cuts.specs.declared.Way.TheVariants.{Normal}
-use Rattle.cuts.proofs.Cutting.{space_cut_sound}
+use Rattle.cuts.proofs.Cutting.{made_sound}
 use Rattle.cuts.proofs.Sizes.{segments_few, segments_most}
 use Rattle.gather.specs.Gather.{AlikeGathered, GatherBounded, GatherSound, Gathered, gather_cut, gather_in}
 
@@ -36,12 +35,9 @@ module _ (f : Plane) (tol : Float) (ps : List Polygon) where
 
 pub gather_sound : GatherSound
 gather_sound k g tol a =
-    let P = Gathered k g tol in
-    space_cut_sound P k Normal g (gather_in tol a)
+    made_sound (Gathered k g tol) k Normal g (λ m. leb (6 * m) a) (λ ps f. segments_on f tol ps)
     (λ ps r f e.
     let m : length (flatten ps) ≡ corners_of (space_cell k) = ap corners_of (sym r) in
-    sound_unless 1 7 P 7 (leb (6 * length (flatten ps)) a) (found (segments_on f tol ps)) (omega arith) (omega arith)
-    (λ _.
     record {
       polygons = ps;
       read_is = r;
@@ -50,7 +46,7 @@ gather_sound k g tol a =
       segments_are = refl;
       bounded = omega (arith, segments_most f tol ps, m);
       few = segments_few k ps r f tol;
-    }))
+    })
 
 pub gather_few : (k : Cell) (g : Through) (tol : Float) (a : ℕ) → Sound 1 7 (λ ss. length ss ≤ 384) (gather_cut k g tol a)
 gather_few k g tol a = weaker (gather_cut k g tol a) (gather_sound k g tol a)

@@ -8,7 +8,7 @@ use lib.Dec.{leb}
 use lib.Ieee.{Float}
 use lib.ListN.{length}
 use Rattle.rows.specs.Outcome.{Outcome, refused, found, and_then, unless}
-use Rattle.rows.proofs.Outcomes.{sound_unless, told_has}
+use Rattle.rows.proofs.Outcomes.{told_has}
 use Rattle.vector.specs.declared.Plane.{Plane}
 use Rattle.cell.specs.Read.{Polygon, corners_of, space_cell}
 use Rattle.stitch.specs.Entry.{Lengths, room}
@@ -16,7 +16,7 @@ use Rattle.cell.proofs.Alike.{alike_in_space}
 use Rattle.cuts.specs.Cuts.{cut_cell, place_in}
 use Rattle.cuts.specs.Defaulted.{defaulted_by}
 use Rattle.cuts.specs.declared.Way.TheVariants.{Normal}
-use Rattle.cuts.proofs.Cutting.{space_cut_sound}
+use Rattle.cuts.proofs.Cutting.{made_sound}
 use Rattle.cuts.proofs.Defaulted.{Few, defaulted_few}
 use Rattle.plane_cut.specs.Defaulted.{defaulted_in as defaulted_in_room}
 use Rattle.gather.specs.Defaulted.{AlikeDefaulted, GatherDefaultedBound, PlaneDefaultedByGathering, defaulted_in, gather_defaulted}
@@ -25,10 +25,7 @@ use Rattle.gather.proofs.Stitching.{steps}
 pub gather_defaulted_bound : GatherDefaultedBound
 gather_defaulted_bound k g tol a =
     told_has 1 7 (Few k) (gather_defaulted k g tol a) (omega arith, omega arith)
-    (space_cut_sound (Few k) k Normal g (defaulted_in tol a)
-    (λ ps r f e.
-    sound_unless 1 7 (Few k) 7 (leb (6 * length (flatten ps)) a) (found (defaulted_by f tol ps)) (omega arith) (omega arith)
-    (λ _. defaulted_few k ps r f tol)))
+    (made_sound (Few k) k Normal g (λ m. leb (6 * m) a) (λ ps f. defaulted_by f tol ps) (λ ps r f e. defaulted_few k ps r f tol))
 
 -- by how far the cut came
 by_cell : (tol : Float) (l : Lengths) (o : Outcome (List Polygon)) (p : Outcome Plane) → let m = corners_of o in

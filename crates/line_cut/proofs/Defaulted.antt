@@ -7,8 +7,7 @@ use native.Mathlib.Omega.{arith}
 use lib.Dec.{leb}
 use lib.Ieee.{Float}
 use lib.ListN.{length, get_or, take, drop, length-append, length-map, drop_of_length-le}
-use Rattle.rows.specs.Outcome.{found}
-use Rattle.rows.proofs.Outcomes.{sound_unless, told_has}
+use Rattle.rows.proofs.Outcomes.{told_has}
 use Rattle.vector.specs.Vector.{Vector}
 use Rattle.vector.specs.declared.Plane.{Plane}
 use Rattle.cell.specs.Read.{corners_of, space_cell}
@@ -22,7 +21,7 @@ use Rattle.stitch.proofs.Claim.{claim}
 use Rattle.cell.proofs.Alike.{alike_in_space}
 use Rattle.cuts.specs.Cuts.{cut_cell, place_in}
 use Rattle.cuts.specs.declared.Way.TheVariants.{Direction}
-use Rattle.cuts.proofs.Cutting.{space_cut_sound}
+use Rattle.cuts.proofs.Cutting.{made_sound}
 use Rattle.cuts.proofs.Sizes.{corners_in_all, found_few}
 use Rattle.line_cut.specs.LineCut.{axis}
 use Rattle.line_cut.specs.Defaulted.{AlikeDefaulted, DefaultedOnLineBound, LineDefaultedBound, defaulted_in, defaulted_on_line, line_defaulted}
@@ -52,12 +51,11 @@ pub line_defaulted_bound : LineDefaultedBound
 line_defaulted_bound k g tol a =
     let P : ℕ → Type 0 = λ n. (2 * n ≤ 5 * corners_of (space_cell k)) × (n ≤ 640) in
     told_has 1 7 P (line_defaulted k g tol a) (omega arith, omega arith)
-    (space_cut_sound P k Direction g (defaulted_in tol a)
+    (made_sound P k Direction g (λ m. leb (14 * m) a) (λ ps f. defaulted_on_line f tol ps)
     (λ ps r f e.
     let m : length (flatten ps) ≡ corners_of (space_cell k) = ap corners_of (sym r) in
     let b = defaulted_on_line_bound f tol ps in
-    sound_unless 1 7 P 7 (leb (14 * length (flatten ps)) a) (found (defaulted_on_line f tol ps)) (omega arith) (omega arith)
-    (λ _. (omega (arith, b, corners_in_all ps, m), omega (arith, b, corners_in_all ps, found_few k ps r)))))
+    (omega (arith, b, corners_in_all ps, m), omega (arith, b, corners_in_all ps, found_few k ps r))))
 
 -- ---- i of the loops are passed, s nodes and g crossings by default
 pub record LoopsCounted (tol : Float) (ps : List Vector) (nodes ends : List ℕ) (i s g : ℕ) : Type 0 where

@@ -4,8 +4,6 @@ use mathlib.Core.List.{flatten}
 use Prim.Native.Nat.{ℕ, ◌*◌, ◌/◌, ◌≤◌}
 use native.Mathlib.Omega.{arith}
 use lib.ListN.{length}
-use Rattle.rows.specs.Outcome.{found}
-use Rattle.rows.proofs.Outcomes.{sound_unless}
 use Rattle.cell.specs.Types.{shape_of}
 use Rattle.cell.specs.Claims.{CornersKept}
 use Rattle.cell.specs.declared.types.Shape.{Shape}
@@ -19,7 +17,7 @@ use Rattle.stitch.proofs.Claim.{claim}
 use Rattle.stitch.proofs.Entries.{of_answer, small_answer, small_told}
 use Rattle.cuts.specs.Cuts.{cut_cell, place_in, section_of, segments_on}
 use Rattle.cuts.specs.declared.Way.TheVariants.{Normal}
-use Rattle.cuts.proofs.Cutting.{space_cut_sound}
+use Rattle.cuts.proofs.Cutting.{made_sound}
 use Rattle.cuts.proofs.Sizes.{segments_few, segments_most}
 use Rattle.plane_cut.specs.PlaneCut.{AlikeByPlane, PlaneClaim, PlaneSection, PlaneSmall, PlaneSound, SegmentsBounded}
 use Rattle.plane_cut.specs.PlaneCut.{most_segments, plane_cut, section_in}
@@ -48,12 +46,8 @@ alike_by_plane k k' ps ps' r r' z g tol l =
 
 pub plane_sound : PlaneSound
 plane_sound k g tol l =
-    let P = PlaneSection k g tol in
-    space_cut_sound P k Normal g (section_in tol l)
+    made_sound (PlaneSection k g tol) k Normal g (λ m. room (6 * m) (3 * m / 2) (m / 2) l) (λ ps f. section_of f tol ps)
     (λ ps r f e.
-    let m = length (flatten ps) in
-    sound_unless 1 7 P 7 (room (6 * m) (3 * m / 2) (m / 2) l) (found (section_of f tol ps)) (omega arith) (omega arith)
-    (λ _.
     record {
       polygons = ps;
       read_is = r;
@@ -61,7 +55,7 @@ plane_sound k g tol l =
       frame_is = e;
       few = segments_few k ps r f tol;
       claim = claim (rule_of tol) (segments_on f tol ps);
-    }))
+    })
 
 pub plane_claim : PlaneClaim
 plane_claim k g tol r b b' h z =

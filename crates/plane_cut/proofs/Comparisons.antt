@@ -1,11 +1,8 @@
 -- The comparisons of points that the plane cut tells: those of welding its segments, and few. Assumes nothing.
 use mathlib.Core.Path.{refl, ap}
-use mathlib.Core.List.{flatten}
 use Prim.Native.Nat.{◌*◌, ◌/◌, ◌≤◌}
 use native.Mathlib.Omega.{arith}
-use lib.ListN.{length}
-use Rattle.rows.specs.Outcome.{found}
-use Rattle.rows.proofs.Outcomes.{sound_unless, told_then}
+use Rattle.rows.proofs.Outcomes.{told_then}
 use Rattle.stitch.specs.Stitch.{rule_of}
 use Rattle.stitch.specs.Entry.{room}
 use Rattle.stitch.proofs.Comparisons.{comparisons_of, few_compared}
@@ -13,18 +10,14 @@ use Rattle.cell.proofs.Alike.{alike_in_space}
 use Rattle.cuts.specs.Cuts.{cut_cell, place_in, segments_on}
 use Rattle.cuts.specs.Comparisons.{comparisons_by}
 use Rattle.cuts.specs.declared.Way.TheVariants.{Normal}
-use Rattle.cuts.proofs.Cutting.{space_cut_sound}
+use Rattle.cuts.proofs.Cutting.{made_sound}
 use Rattle.cuts.proofs.Sizes.{segments_few}
 use Rattle.plane_cut.specs.Comparisons.{AlikeCompared, FewCompared, PlaneCompared, PlaneComparisons, comparisons_in, plane_comparisons}
 
 pub plane_compared : PlaneCompared
 plane_compared k g tol l =
-    let P = PlaneComparisons k g tol in
-    space_cut_sound P k Normal g (comparisons_in tol l)
+    made_sound (PlaneComparisons k g tol) k Normal g (λ m. room (6 * m) (3 * m / 2) (m / 2) l) (λ ps f. comparisons_by f tol ps)
     (λ ps r f e.
-    let m = length (flatten ps) in
-    sound_unless 1 7 P 7 (room (6 * m) (3 * m / 2) (m / 2) l) (found (comparisons_by f tol ps)) (omega arith) (omega arith)
-    (λ _.
     record {
       polygons = ps;
       read_is = r;
@@ -32,7 +25,7 @@ plane_compared k g tol l =
       frame_is = e;
       few = segments_few k ps r f tol;
       compared = comparisons_of (rule_of tol).tol2 (segments_on f tol ps) refl;
-    }))
+    })
 
 pub plane_few : FewCompared
 plane_few k g tol l =

@@ -34,7 +34,7 @@ pub record PlaneComparisons (k : Cell) (g : Through) (tol : Float) (n : ℕ) : T
 abbrev pub PlaneCompared : Type 0
 PlaneCompared = (k : Cell) (g : Through) (tol : Float) (l : Lengths) → Sound 1 7 (PlaneComparisons k g tol) (plane_comparisons k g tol l)
 
--- a number of 32 bits
+-- a number of 32 bits: at most 384 times 767
 abbrev pub FewCompared : Type 0
 FewCompared = (k : Cell) (g : Through) (tol : Float) (l : Lengths) → told_count (plane_comparisons k g tol l) ≤ 294528
 

@@ -34,26 +34,13 @@ unfolding push
 points_from tol2 [] qs = qs
 points_from tol2 (seg p q ∷ ss) qs = points_from tol2 ss (push q tol2 (push p tol2 qs))
 
--- ---- the edge of docs/RULES.md: two points, smaller first
-abbrev pub edge : ℕ → ℕ → Edge
-edge a b = record { smaller = a; larger = b }
-
-abbrev pub same : Edge → Edge → Bool
-same e f = eqb e.smaller f.smaller && eqb e.larger f.larger
-
--- the edge between two points
-abbrev pub between : ℕ → ℕ → Edge
-between a b = edge (min a b) (max a b)
-
--- whether an edge is in a list
-unfoldable pub listed : Edge → List Edge → Bool
-listed e es = list_any (λ f. same e f) es
-
 -- The two points that the ends of each segment become, first end first, where qs are the points before.
 unfoldable pub becomes : Float → List Seg → List Vector → List (ℕ × ℕ)
 unfolding push place
 becomes tol2 [] qs = []
 becomes tol2 (seg p q ∷ ss) qs = (place p tol2 qs, place q tol2 (push p tol2 qs)) ∷ becomes tol2 ss (push q tol2 (push p tol2 qs))
+
+-- ---- the comparisons of points that this takes
 
 -- How many points p is compared with: those up to and with the first near it, or all of them.
 unfoldable pub compared : Vector → Float → List Vector → ℕ
@@ -70,6 +57,21 @@ unfoldable pub comparisons_from : Float → List Seg → List Vector → ℕ
 unfolding push compared
 comparisons_from tol2 [] qs = 0
 comparisons_from tol2 (seg p q ∷ ss) qs = compared_ends tol2 p q qs + comparisons_from tol2 ss (push q tol2 (push p tol2 qs))
+
+-- ---- the edge of docs/RULES.md: two points, smaller first
+abbrev pub edge : ℕ → ℕ → Edge
+edge a b = record { smaller = a; larger = b }
+
+abbrev pub same : Edge → Edge → Bool
+same e f = eqb e.smaller f.smaller && eqb e.larger f.larger
+
+-- the edge between two points
+abbrev pub between : ℕ → ℕ → Edge
+between a b = edge (min a b) (max a b)
+
+-- whether an edge is in a list
+unfoldable pub listed : Edge → List Edge → Bool
+listed e es = list_any (λ f. same e f) es
 
 -- ends that weld together give no edge; an edge is listed once
 unfoldable pub add_edge : ℕ → ℕ → List Edge → List Edge

@@ -59,12 +59,12 @@ fn weld_segment(
     let a = push_coord(points, &mut welded.points, p, tol2);
     let m = welded.points;
     let b = push_coord(points, &mut welded.points, q, tol2);
-    welded.comparisons += compared(a, n) + compared(b, m);
+    welded.comparisons += compared_with(a, n) + compared_with(b, m);
     add_edge(edges, &mut welded.edges, n, a, b);
 }
 
-// How many of n points an end was compared with that became point k: those up to and with k, or all of them if it is a new one.
-fn compared(k: u32, n: usize) -> usize
+// How many of n points an end was compared with, by the point k that it became: up to and with k, or with all of them if k is new.
+fn compared_with(k: u32, n: usize) -> usize
     ensures { result ≡ min (k + 1) n }
 {
     (k as usize + 1).min(n)

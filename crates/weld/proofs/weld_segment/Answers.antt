@@ -14,5 +14,5 @@ pub returns : goal.returns
 returns c =
     rw (← c.coord-p.ensures, ← c.coord-q.ensures) (
       joined c.push_coord-a.ensures c.push_coord-b.ensures c.add_edge.ensures,
-      omega (arith, compared_two _ c.push_coord-a.ensures c.push_coord-b.ensures.number, c.compared.ensures, c.compared-2.ensures),
+      omega (arith, compared_two _ c.push_coord-a.ensures c.push_coord-b.ensures.number, c.compared_with.ensures, c.compared_with-2.ensures),
     )
