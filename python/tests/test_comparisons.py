@@ -449,6 +449,13 @@ def test_the_page(path, tmp_path):
     assert "comparison" not in without_claims(tmp_path / "c.html")
 
 
+def test_a_line_cut_has_none_to_tell(path, tmp_path):
+    cut = cicelybeam.cut_line(cicelybeam.read(path), (0, 0.5, 0.5), (1, 0, 0))
+    with pytest.raises(cicelybeam.CicelybeamError, match="a line cut has no comparisons of points to tell: leave comparisons=True out"):
+        cut.write(tmp_path / "a.html", comparisons=True)
+    assert not list(tmp_path.glob("a.html"))
+
+
 def test_the_csv_of_rings_is_as_it_was(path, tmp_path):
     run("plane", path, *ALONG, "--quiet", "--timing", "--report", tmp_path / "a.csv")
     (columns, *_) = csv.reader((tmp_path / "a.csv").open())
