@@ -2,6 +2,7 @@
 
 use compare::lists::List;
 use compare::nanoseconds;
+use compare::random::Random;
 use compare::stitching::ours;
 use std::hint::black_box;
 
@@ -11,6 +12,7 @@ fn main() {
     compared("ring of 24", 200_000, &ring(24));
     compared("ring of 96", 40_000, &ring(96));
     compared("ring of 384", 4_000, &ring(384));
+    compared("ring of 384, shuffled", 4_000, &shuffled(384));
 }
 
 /// The segments of the unit cube cut at half its height.
@@ -32,6 +34,13 @@ fn ring(n: usize) -> List {
         segments: (0..n).map(|k| [corner(k), corner(k + 1)]).collect(),
         tol: 1e-12,
     }
+}
+
+/// The same, in another order.
+fn shuffled(n: usize) -> List {
+    let mut list = ring(n);
+    Random::new(1).shuffle(&mut list.segments);
+    list
 }
 
 fn compared(name: &str, rounds: u32, list: &List) {
