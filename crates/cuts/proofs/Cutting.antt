@@ -9,7 +9,7 @@ use lib.Dec.{eqb}
 use lib.Ieee.{Float}
 use lib.ListN.{length}
 use Rattle.rows.specs.Outcome.{Outcome, refused, found, and_then, unless, Sound}
-use Rattle.rows.proofs.Outcomes.{sound_then, sound_unless}
+use Rattle.rows.proofs.Outcomes.{never_both, sound_then, sound_unless}
 use Rattle.vector.specs.declared.Plane.{Plane}
 use Rattle.cell.specs.Types.{allow, space_type}
 use Rattle.cell.specs.Read.{Polygon, Typed, untyped, typed, are_rows, polygons, read_as, polygons_of, corners_of, Accepted}
@@ -93,3 +93,15 @@ made_sound P k way g room made h =
     space_cut_sound P k way g (λ m ps f. unless 7 (room m) (found (made ps f)))
     (λ ps r f e.
     sound_unless 1 7 P 7 (room (length (flatten ps))) (found (made ps f)) (omega arith) (omega arith) (λ _. h ps r f e))
+
+-- two works that refuse the room alone, and the same, refuse alike
+pub refused_alike : {A B C : Type 0} (o : Outcome (List Polygon)) (by : Outcome C) (room : ℕ → Bool) (made : List Polygon → C → A)
+    (other : List Polygon → C → B) {k : ℕ} → cut_cell o by (λ m ps f. unless 7 (room m) (found (made ps f))) ≡ refused k
+    → cut_cell o by (λ m ps f. unless 7 (room m) (found (other ps f))) ≡ refused k
+refused_alike (refused j) by room made other e = cc
+refused_alike (found ps) (refused j) room made other e = cc
+refused_alike (found ps) (found f) room made other {k} e = by_test (room (length (flatten ps))) e
+  where
+    by_test : (b : Bool) → unless 7 b (found (made ps f)) ≡ refused k → unless 7 b (found (other ps f)) ≡ refused k
+    by_test true e = absurd (never_both (sym e))
+    by_test false e = cc

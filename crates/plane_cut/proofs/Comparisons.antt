@@ -6,13 +6,19 @@ use Rattle.rows.proofs.Outcomes.{told_then}
 use Rattle.stitch.specs.Stitch.{rule_of}
 use Rattle.stitch.specs.Entry.{room}
 use Rattle.stitch.proofs.Comparisons.{comparisons_of, few_compared}
+use Rattle.cell.specs.Read.{space_cell}
 use Rattle.cell.proofs.Alike.{alike_in_space}
-use Rattle.cuts.specs.Cuts.{cut_cell, place_in, segments_on}
+use Rattle.cuts.specs.Cuts.{cut_cell, place_in, section_of, segments_on}
 use Rattle.cuts.specs.Comparisons.{comparisons_by}
 use Rattle.cuts.specs.declared.Way.TheVariants.{Normal}
-use Rattle.cuts.proofs.Cutting.{made_sound}
+use Rattle.cuts.proofs.Cutting.{made_sound, refused_alike}
 use Rattle.cuts.proofs.Sizes.{segments_few}
-use Rattle.plane_cut.specs.Comparisons.{AlikeCompared, FewCompared, PlaneCompared, PlaneComparisons, comparisons_in, plane_comparisons}
+use Rattle.plane_cut.specs.Comparisons.{AlikeCompared, FewCompared, PlaneCompared, PlaneComparisons, RefusedAlike, comparisons_in, plane_comparisons}
+
+pub comparisons_refused : RefusedAlike
+comparisons_refused k g tol l j e =
+    refused_alike (space_cell k) (place_in Normal g) (λ m. room (6 * m) (3 * m / 2) (m / 2) l) (λ ps f. section_of f tol ps)
+    (λ ps f. comparisons_by f tol ps) e
 
 pub plane_compared : PlaneCompared
 plane_compared k g tol l =

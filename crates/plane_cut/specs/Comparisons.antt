@@ -1,7 +1,7 @@
 -- The comparisons of points of the plane cut, beside PlaneCut.antt. Definitions and statements only; the theorems are in
 -- proofs/Comparisons.antt.
 use Rattle.std.specs.Prelude.{◌≡◌, List, ℕ, ◌*◌, ◌/◌, ◌≤◌, length, Float, Some}
-use Rattle.rows.specs.Outcome.{Outcome, found, unless, Sound, told_count}
+use Rattle.rows.specs.Outcome.{Outcome, refused, found, unless, Sound, told_count}
 use Rattle.vector.specs.Vector.{plane_of}
 use Rattle.vector.specs.declared.Plane.{Plane}
 use Rattle.cell.specs.Read.{Polygon, Cell, space_cell}
@@ -12,6 +12,7 @@ use Rattle.stitch.specs.Entry.{Lengths, room}
 use Rattle.cuts.specs.Cuts.{Through, cut_cell, place_in, segments_on}
 use Rattle.cuts.specs.Comparisons.{comparisons_by}
 use Rattle.cuts.specs.declared.Way.TheVariants.{Normal}
+use Rattle.plane_cut.specs.PlaneCut.{plane_cut}
 
 -- 7: as for the section
 abbrev pub comparisons_in : Float → Lengths → ℕ → List Polygon → Plane → Outcome ℕ
@@ -19,6 +20,10 @@ comparisons_in tol l m ps f = unless 7 (room (6 * m) (3 * m / 2) (m / 2) l) (fou
 
 abbrev pub plane_comparisons : Cell → Through → Float → Lengths → Outcome ℕ
 plane_comparisons k g tol l = cut_cell (space_cell k) (place_in Normal g) (comparisons_in tol l)
+
+-- It is refused where the plane cut is, with the same number, so that 0 is told then.
+abbrev pub RefusedAlike : Type 0
+RefusedAlike = (k : Cell) (g : Through) (tol : Float) (l : Lengths) (j : ℕ) → plane_cut k g tol l ≡ refused j → plane_comparisons k g tol l ≡ refused j
 
 -- n is the number of comparisons of points that the section of a cell by a plane takes: the cell was read, the plane was placed, and n is
 -- that of welding the segments of its faces, at most s times (2s - 1) of s segments.

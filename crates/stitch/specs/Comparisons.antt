@@ -12,7 +12,7 @@ use Rattle.stitch.specs.Entry.{Lengths, stitch_alone}
 use Rattle.stitch.specs.declared.Stitched.{Stitched}
 use Rattle.stitch.specs.declared.StitchedSegments.{StitchedSegments}
 
--- what is refused is refused here too
+-- refused as stitching alone is, and else the comparisons of the segments that were handed over
 abbrev pub stitch_comparisons : List Float → Float → Lengths → Outcome ℕ
 stitch_comparisons xs tol l = and_then (stitch_alone xs tol l) (λ a. found (comparisons (rule_of tol).tol2 (segs 2 (length xs / 4) xs)))
 
