@@ -11,6 +11,7 @@ use Rattle.clip.specs.Defaulted.{defaulted}
 use Rattle.stitch.specs.Stitch.{rule_of}
 use Rattle.stitch.specs.Claim.{ComparisonsOf}
 use Rattle.stitch.specs.Code.{Stitches}
+use Rattle.stitch.specs.Entry.{nothing}
 use Rattle.stitch.specs.declared.Stitched.{Stitched}
 use Rattle.trial.specs.declared.Answer.{Answer}
 use Rattle.trial.specs.declared.Clipped.{Clipped}
@@ -66,9 +67,11 @@ pub record Stitching (segments : List Float) (tol : Float) (r : Answer) (points 
   pub stitches : Stitches (rule_of tol) (segs 2 (length segments / 4) segments) (stitched_in r) points points' nodes nodes' ends ends'
   pub compared : ComparisonsOf (rule_of tol).tol2 (segs 2 (length segments / 4) segments) r.comparisons
 
--- the answer where they do not: the buffers are as they were
+-- the answer where they do not: nothing is told, and the buffers are as they were
 pub record Unstitched (r : Answer) (points points' : List Float) (nodes nodes' ends ends' : List ℕ) : Type 0 where
   pub said : r.fitted ≡ 0
+  pub none : stitched_in r ≡ nothing
+  pub none_compared : r.comparisons ≡ 0
   pub same_points : points' ≡ points
   pub same_nodes : nodes' ≡ nodes
   pub same_ends : ends' ≡ ends
