@@ -16,7 +16,7 @@ told_in r =
             points = r.points;
             nodes = r.nodes;
             loops = r.loops;
-            counts = record { listed = r.listed; in_loops = r.in_loops; flat = r.flat; opened = r.opened };
+            counts = record { listed = r.listed; in_loops = r.in_loops; pinched = r.pinched; flat = r.flat; opened = r.opened };
           };
     }
 

@@ -9,7 +9,7 @@ ghost use Rattle.rows.specs.Outcome.{told_count};
 ghost use Rattle.rows.specs.Refusals.{outcome_of};
 ghost use Rattle.vector.specs.Tolerance.{told_tolerance, tolerance_of};
 ghost use Rattle.cell.specs.Read.{cell};
-ghost use Rattle.stitch.specs.Entry.{Gave, Small, buffers, lengths, section_told, stitch_alone};
+ghost use Rattle.stitch.specs.Entry.{Gave, Small, buffers, lengths, section_told, stitch_alone, strictness_of};
 ghost use Rattle.stitch.specs.Comparisons.{comparisons_told, stitch_comparisons, stitched_of};
 ghost use Rattle.cuts.specs.Cuts.{through};
 ghost use Rattle.cuts.specs.Comparisons.{section_comparisons};
@@ -31,9 +31,9 @@ use cell::Cell;
 use clip::Found;
 use cuts::{CellSection, Through, Way};
 use rows::Refusal;
-use stitch::StitchedSegments;
+use stitch::{StitchedSegments, Strictness};
 
-// struct cicelybeam_section: refusal 0, how many points, nodes and loops were written, the four counts of edges, how many crossings were
+// struct cicelybeam_section: refusal 0, how many points, nodes and loops were written, the counts of edges, how many crossings were
 // defaulted, and how many comparisons of points welding made; or the number of a refusal, and 0 for all else. C's `open` is `opened` here,
 // since `open` is a reserved word.
 #[repr(C)]
@@ -45,6 +45,7 @@ pub struct Section {
     pub loops: u32,
     pub listed: u32,
     pub in_loops: u32,
+    pub pinched: u32,
     pub flat: u32,
     pub opened: u32,
     pub defaulted: u32,
@@ -83,20 +84,21 @@ impl From<Result<f64, Refusal>> for Tolerance {
     }
 }
 
-// A space cell cut by a plane.
+// A space cell cut by a plane; in the strict way unless `strict` is 0.
 pub fn cicelybeam_plane(
     cell_type: u8,
     conn: &[u64],
     coords: &[f64],
     origin: &[f64],
     normal: &[f64],
+    strict: u8,
     tol: f64,
     numbers: &mut [f64],
     nodes: &mut [u32],
     ends: &mut [u32],
 ) -> Section
     ensures { Gave
-        (plane_cut (cell cell_type conn.now coords.now) (through origin.now normal.now) tol
+        (plane_cut (cell cell_type conn.now coords.now) (through origin.now normal.now) (strictness_of strict) tol
         (lengths (buffers numbers.old nodes.old ends.old)))
         (told_in result) (buffers numbers.old nodes.old ends.old)
         (buffers numbers.new nodes.new ends.new)
@@ -116,7 +118,15 @@ pub fn cicelybeam_plane(
         origin,
         vector: normal,
     };
-    told_section(plane_cut::section_cell_by_plane(&cell, &through, tol, numbers, nodes, ends))
+    told_section(plane_cut::section_cell_by_plane(
+        &cell,
+        &through,
+        Strictness::from(strict),
+        tol,
+        numbers,
+        nodes,
+        ends,
+    ))
 }
 
 // The segments of a space cell on a plane, before they are stitched.
@@ -237,16 +247,17 @@ pub fn cicelybeam_plane_cell_by_direction(
     told_line(plane_cell::slice_2d(Way::Direction, &cell, &through, tol, numbers))
 }
 
-// Stitching alone, which computes no crossing.
+// Stitching alone, which computes no crossing; in the strict way unless `strict` is 0.
 pub fn cicelybeam_stitch(
     segments: &[f64],
+    strict: u8,
     tol: f64,
     numbers: &mut [f64],
     nodes: &mut [u32],
     ends: &mut [u32],
 ) -> Section
     ensures { Gave
-        (stitch_alone segments.now tol
+        (stitch_alone segments.now (strictness_of strict) tol
         (lengths (buffers numbers.old nodes.old ends.old)))
         (told_in result) (buffers numbers.old nodes.old ends.old)
         (buffers numbers.new nodes.new ends.new)
@@ -256,7 +267,12 @@ pub fn cicelybeam_stitch(
         (lengths (buffers numbers.old nodes.old ends.old)))) }
 {
     told_section(without_crossings(stitch::alone::stitch_alone(
-        segments, tol, numbers, nodes, ends,
+        segments,
+        Strictness::from(strict),
+        tol,
+        numbers,
+        nodes,
+        ends,
     )))
 }
 
@@ -325,6 +341,7 @@ fn told_cell_section(section: CellSection) -> Section
         loops: s.loops as u32,
         listed: s.counts.listed as u32,
         in_loops: s.counts.in_loops as u32,
+        pinched: s.counts.pinched as u32,
         flat: s.counts.flat as u32,
         opened: s.counts.opened as u32,
         defaulted: section.defaulted as u32,

@@ -8,7 +8,7 @@ ghost use Rattle.root.specs.Root.{sqrt_of};
 ghost use Rattle.rows.specs.Outcome.{told_count};
 ghost use Rattle.vector.specs.Tolerance.{told_tolerance, tolerance_of};
 ghost use Rattle.cell.specs.Read.{cell};
-ghost use Rattle.stitch.specs.Entry.{Gave, buffers, lengths, stitch_alone};
+ghost use Rattle.stitch.specs.Entry.{Gave, buffers, lengths, stitch_alone, strictness_of};
 ghost use Rattle.stitch.specs.Comparisons.{stitch_comparisons};
 ghost use Rattle.cuts.specs.Cuts.{through};
 ghost use Rattle.cuts.specs.Lines.{GaveLine};
@@ -26,7 +26,7 @@ ghost use Rattle.cicelybeam.specs.Exports.{told_in, told_line_in, told_tolerance
 
 use cicelybeam::{Line, Section, Tolerance};
 
-// A space cell cut by a plane.
+// A space cell cut by a plane; in the strict way unless `strict` is 0.
 #[unsafe(no_mangle)]
 pub extern "C" fn cicelybeam_plane(
     cell_type: u8,
@@ -34,13 +34,14 @@ pub extern "C" fn cicelybeam_plane(
     coords: &[f64],
     origin: &[f64],
     normal: &[f64],
+    strict: u8,
     tol: f64,
     numbers: &mut [f64],
     nodes: &mut [u32],
     ends: &mut [u32],
 ) -> Section
     ensures { Gave
-        (plane_cut (cell cell_type conn.now coords.now) (through origin.now normal.now) tol
+        (plane_cut (cell cell_type conn.now coords.now) (through origin.now normal.now) (strictness_of strict) tol
         (lengths (buffers numbers.old nodes.old ends.old)))
         (told_in result) (buffers numbers.old nodes.old ends.old)
         (buffers numbers.new nodes.new ends.new)
@@ -52,7 +53,7 @@ pub extern "C" fn cicelybeam_plane(
         (lengths (buffers numbers.old nodes.old ends.old)))) }
 {
     cicelybeam::cicelybeam_plane(
-        cell_type, conn, coords, origin, normal, tol, numbers, nodes, ends,
+        cell_type, conn, coords, origin, normal, strict, tol, numbers, nodes, ends,
     )
 }
 
@@ -146,17 +147,18 @@ pub extern "C" fn cicelybeam_plane_cell_by_direction(
     )
 }
 
-// Stitching alone.
+// Stitching alone; in the strict way unless `strict` is 0.
 #[unsafe(no_mangle)]
 pub extern "C" fn cicelybeam_stitch(
     segments: &[f64],
+    strict: u8,
     tol: f64,
     numbers: &mut [f64],
     nodes: &mut [u32],
     ends: &mut [u32],
 ) -> Section
     ensures { Gave
-        (stitch_alone segments.now tol
+        (stitch_alone segments.now (strictness_of strict) tol
         (lengths (buffers numbers.old nodes.old ends.old)))
         (told_in result) (buffers numbers.old nodes.old ends.old)
         (buffers numbers.new nodes.new ends.new)
@@ -165,7 +167,7 @@ pub extern "C" fn cicelybeam_stitch(
         ≡ told_count (stitch_comparisons segments.now tol
         (lengths (buffers numbers.old nodes.old ends.old)))) }
 {
-    cicelybeam::cicelybeam_stitch(segments, tol, numbers, nodes, ends)
+    cicelybeam::cicelybeam_stitch(segments, strict, tol, numbers, nodes, ends)
 }
 
 // The tolerance of a mesh in space, by its coordinates.

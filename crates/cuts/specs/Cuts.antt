@@ -8,7 +8,8 @@ use Rattle.vector.specs.declared.Plane.{Plane}
 use Rattle.vector.specs.Rows.{Seg}
 use Rattle.cell.specs.Read.{Polygon}
 use Rattle.clip.specs.Cell.{cut_by, cell_segments}
-use Rattle.stitch.specs.Stitch.{Answer, stitched}
+use Rattle.stitch.specs.Stitch.{Answer, stitched, stitched_by}
+use Rattle.stitch.specs.declared.Strictness.{Strictness}
 use Rattle.cuts.specs.declared.Way as W
 use Rattle.cuts.specs.declared.Way.TheVariants as w
 
@@ -53,6 +54,10 @@ cut_cell cell by work = and_then cell (λ ps. and_then by (work (length (flatten
 abbrev pub segments_on : Plane → Float → List Polygon → List Seg
 segments_on f tol ps = cell_segments (cut_by f tol) f ps
 
--- the section of polygons by a plane
+-- the section of polygons by a plane, in the usual way or the strict one
+abbrev pub section_by : Strictness → Plane → Float → List Polygon → Answer
+section_by way f tol ps = stitched_by way tol (segments_on f tol ps)
+
+-- and in the usual way, as a line cut has it
 abbrev pub section_of : Plane → Float → List Polygon → Answer
 section_of f tol ps = stitched tol (segments_on f tol ps)

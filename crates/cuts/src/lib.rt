@@ -15,7 +15,7 @@ use cell::accepted::SpaceCell;
 use cell::types::SpaceType;
 use clip::{CuttingPlane, Found};
 use rows::Refusal;
-use stitch::Stitched;
+use stitch::{Stitched, Strictness};
 use vector::{Plane, coord};
 
 // What the vector is that a cut is given by: data of the definitions and theorems, so no closure stands for it.
@@ -141,19 +141,20 @@ pub struct CellSection {
 pub fn section_cell(
     cell: &SpaceCell,
     cutting: &CuttingPlane,
+    strictness: Strictness,
     numbers: &mut [f64],
     nodes: &mut [u32],
     ends: &mut [u32],
 ) -> CellSection
     requires { Roomy cell.now.corners numbers.old nodes.old ends.old }
-    ensures { SectionGiven cutting.now.plane cutting.now.tol (polygons_of (space_cell (cell_of cell.now.cell))) result
+    ensures { SectionGiven strictness cutting.now.plane cutting.now.tol (polygons_of (space_cell (cell_of cell.now.cell))) result
         (buffers numbers.old nodes.old ends.old)
         (buffers numbers.new nodes.new ends.new) }
 {
     match Size::of(cell) {
-        Size::Fixed => section_within::<144>(cell, cutting, numbers, nodes, ends),
-        Size::Small => section_within::<528>(cell, cutting, numbers, nodes, ends),
-        Size::Large => section_within::<1536>(cell, cutting, numbers, nodes, ends),
+        Size::Fixed => section_within::<144>(cell, cutting, strictness, numbers, nodes, ends),
+        Size::Small => section_within::<528>(cell, cutting, strictness, numbers, nodes, ends),
+        Size::Large => section_within::<1536>(cell, cutting, strictness, numbers, nodes, ends),
     }
 }
 
@@ -162,20 +163,21 @@ pub fn section_cell(
 pub fn section_within<const SEGMENTS: usize>(
     cell: &SpaceCell,
     cutting: &CuttingPlane,
+    strictness: Strictness,
     numbers: &mut [f64],
     nodes: &mut [u32],
     ends: &mut [u32],
 ) -> CellSection
     requires { Roomy cell.now.corners numbers.old nodes.old ends.old × (SEGMENTS ≤ 1536)
         × (6 * cell.now.corners ≤ SEGMENTS) }
-    ensures { SectionGiven cutting.now.plane cutting.now.tol (polygons_of (space_cell (cell_of cell.now.cell))) result
+    ensures { SectionGiven strictness cutting.now.plane cutting.now.tol (polygons_of (space_cell (cell_of cell.now.cell))) result
         (buffers numbers.old nodes.old ends.old)
         (buffers numbers.new nodes.new ends.new) }
 {
     let mut segments = [0.0; SEGMENTS];
     let found = gather_cell(cell, cutting, &mut segments);
     let segments = &segments[..4 * found.segments];
-    let stitching = stitch::stitch_segments(segments, cutting.tol, numbers, nodes, ends);
+    let stitching = stitch::stitch_segments(segments, strictness, cutting.tol, numbers, nodes, ends);
     CellSection {
         stitched: stitching.stitched,
         defaulted: found.defaulted,

@@ -9,7 +9,8 @@ use Rattle.cell.specs.Faces.{Face, separator}
 use Rattle.cell.specs.Read.{Polygon, Cell, cell, corners_of, numbered_in_space, space_cell}
 use Rattle.cell.specs.Claims.{SameInSpace, faces_as}
 use Rattle.clip.specs.Cell.{at_most}
-use Rattle.stitch.specs.Stitch.{stitched}
+use Rattle.stitch.specs.Stitch.{stitched_by}
+use Rattle.stitch.specs.declared.Strictness.{Strictness}
 use Rattle.stitch.specs.Entry.{Buffers, Lengths, lengths, room, Told, Gave, answer_read, stitch_alone}
 use Rattle.cuts.specs.Cuts.{Through, cut_cell, place_in, segments_on}
 use Rattle.cuts.specs.Lines.{ToldLine, GaveLine, flat}
@@ -52,25 +53,26 @@ GatherBounded =
 -- for.
 abbrev pub StitchGathered : Type 0
 StitchGathered =
-    (k : Cell) (g : Through) (tol : Float) (a : ℕ) (ss : List Seg) → gather_cut k g tol a ≡ found ss → (l : Lengths) → let s = length ss in
-    stitch_alone (flat ss) tol l ≡ unless 7 (room (4 * s) s (s / 3) l) (found (stitched tol ss))
+    (k : Cell) (g : Through) (tol : Float) (a : ℕ) (ss : List Seg) → gather_cut k g tol a ≡ found ss → (way : Strictness) (l : Lengths)
+    → let s = length ss in
+    stitch_alone (flat ss) way tol l ≡ unless 7 (room (4 * s) s (s / 3) l) (found (stitched_by way tol ss))
 
 -- For every input, refusals included: the plane cut gathers, and where its buffers hold what m face corners may need, it gives what
 -- stitching alone gives of the numbers gathered, in the same buffers.
 abbrev pub PlaneByGathering : Type 0
 PlaneByGathering =
-    (k : Cell) (g : Through) (tol : Float) (l : Lengths) → let m = corners_of (space_cell k) in
-    plane_cut k g tol l
-    ≡ and_then (gather_cut k g tol l.numbers) (λ ss. unless 7 (room (6 * m) (3 * m / 2) (m / 2) l) (stitch_alone (flat ss) tol l))
+    (k : Cell) (g : Through) (way : Strictness) (tol : Float) (l : Lengths) → let m = corners_of (space_cell k) in
+    plane_cut k g way tol l
+    ≡ and_then (gather_cut k g tol l.numbers) (λ ss. unless 7 (room (6 * m) (3 * m / 2) (m / 2) l) (stitch_alone (flat ss) way tol l))
 
 -- A caller who gathers, and hands the numbers written to stitching alone, reads what the plane cut's caller reads, whatever the buffers of
 -- each of the three calls, if none is refused.
 abbrev pub ReadAlike : Type 0
 ReadAlike =
-    (k : Cell) (g : Through) (tol : Float) (r : ToldLine) (xs xs' : List Float) (s t : Told) (b b' c c' : Buffers)
+    (k : Cell) (g : Through) (way : Strictness) (tol : Float) (r : ToldLine) (xs xs' : List Float) (s t : Told) (b b' c c' : Buffers)
     → GaveLine (gather_cut k g tol (length xs)) r xs xs' → r.refusal ≡ 0
-    → Gave (stitch_alone (take (4 * r.segments) xs') tol (lengths b)) s b b' → s.refusal ≡ 0
-    → Gave (plane_cut k g tol (lengths c)) t c c' → t.refusal ≡ 0
+    → Gave (stitch_alone (take (4 * r.segments) xs') way tol (lengths b)) s b b' → s.refusal ≡ 0
+    → Gave (plane_cut k g way tol (lengths c)) t c c' → t.refusal ≡ 0
     → (s ≡ t) × (answer_read s b' ≡ answer_read t c')
 
 -- ---- only the corners matter

@@ -23,6 +23,7 @@ use clip::polygon::{Cut, plane_section_segments};
 use clip::{CuttingPlane, Found};
 use cuts::{Size, Through, Way};
 use rows::Refusal;
+use stitch::Strictness;
 use vector::{Plane, coord, plus, put, scaled};
 
 // Cuts a single cell in space with the line through origin that has this direction: the segments, six numbers each. Tells how many
@@ -97,7 +98,14 @@ fn line_within<
         clipped: [0.0; CLIPPED],
         flat: [0.0; FLAT],
     };
-    let section = cuts::section_cell(cell, cutting, &mut points, &mut nodes, &mut ends);
+    let section = cuts::section_cell(
+        cell,
+        cutting,
+        Strictness::Usual,
+        &mut points,
+        &mut nodes,
+        &mut ends,
+    );
     let stitched = section.stitched;
     let found = cut_loops(
         &points[..2 * stitched.points],

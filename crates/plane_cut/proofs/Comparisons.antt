@@ -8,7 +8,7 @@ use Rattle.stitch.specs.Entry.{room}
 use Rattle.stitch.proofs.Comparisons.{comparisons_of, few_compared}
 use Rattle.cell.specs.Read.{space_cell}
 use Rattle.cell.proofs.Alike.{alike_in_space}
-use Rattle.cuts.specs.Cuts.{cut_cell, place_in, section_of, segments_on}
+use Rattle.cuts.specs.Cuts.{cut_cell, place_in, section_by, segments_on}
 use Rattle.cuts.specs.Comparisons.{comparisons_by}
 use Rattle.cuts.specs.declared.Way.TheVariants.{Normal}
 use Rattle.cuts.proofs.Cutting.{made_sound, refused_alike}
@@ -16,8 +16,8 @@ use Rattle.cuts.proofs.Sizes.{segments_few}
 use Rattle.plane_cut.specs.Comparisons.{AlikeCompared, FewCompared, PlaneCompared, PlaneComparisons, RefusedAlike, comparisons_in, plane_comparisons}
 
 pub comparisons_refused : RefusedAlike
-comparisons_refused k g tol l j e =
-    refused_alike (space_cell k) (place_in Normal g) (λ m. room (6 * m) (3 * m / 2) (m / 2) l) (λ ps f. section_of f tol ps)
+comparisons_refused k g way tol l j e =
+    refused_alike (space_cell k) (place_in Normal g) (λ m. room (6 * m) (3 * m / 2) (m / 2) l) (λ ps f. section_by way f tol ps)
     (λ ps f. comparisons_by f tol ps) e
 
 pub plane_compared : PlaneCompared

@@ -9,6 +9,7 @@ use Rattle.cell.specs.Claims.{SameInSpace}
 use Rattle.stitch.specs.Stitch.{rule_of}
 use Rattle.stitch.specs.Claim.{ComparisonsOf}
 use Rattle.stitch.specs.Entry.{Lengths, room}
+use Rattle.stitch.specs.declared.Strictness.{Strictness}
 use Rattle.cuts.specs.Cuts.{Through, cut_cell, place_in, segments_on}
 use Rattle.cuts.specs.Comparisons.{comparisons_by}
 use Rattle.cuts.specs.declared.Way.TheVariants.{Normal}
@@ -21,9 +22,11 @@ comparisons_in tol l m ps f = unless 7 (room (6 * m) (3 * m / 2) (m / 2) l) (fou
 abbrev pub plane_comparisons : Cell → Through → Float → Lengths → Outcome ℕ
 plane_comparisons k g tol l = cut_cell (space_cell k) (place_in Normal g) (comparisons_in tol l)
 
--- It is refused where the plane cut is, with the same number, so that 0 is told then.
+-- It is refused where the plane cut is, with the same number, so that 0 is told then. The way has no part in either.
 abbrev pub RefusedAlike : Type 0
-RefusedAlike = (k : Cell) (g : Through) (tol : Float) (l : Lengths) (j : ℕ) → plane_cut k g tol l ≡ refused j → plane_comparisons k g tol l ≡ refused j
+RefusedAlike =
+    (k : Cell) (g : Through) (way : Strictness) (tol : Float) (l : Lengths) (j : ℕ) → plane_cut k g way tol l ≡ refused j
+    → plane_comparisons k g tol l ≡ refused j
 
 -- n is the number of comparisons of points that the section of a cell by a plane takes: the cell was read, the plane was placed, and n is
 -- that of welding the segments of its faces, at most s times (2s - 1) of s segments.

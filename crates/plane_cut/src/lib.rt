@@ -16,6 +16,7 @@ use cell::Cell;
 use clip::CuttingPlane;
 use cuts::{CellSection, Through, Way};
 use rows::Refusal;
+use stitch::Strictness;
 use stitch::alone::room;
 
 // Cuts a single cell in space with a plane: the section's points in the plane's own coordinates, the nodes of its
@@ -24,13 +25,14 @@ use stitch::alone::room;
 pub fn section_cell_by_plane(
     cell: &Cell,
     through: &Through,
+    strictness: Strictness,
     tol: f64,
     numbers: &mut [f64],
     nodes: &mut [u32],
     ends: &mut [u32],
 ) -> Result<CellSection, Refusal>
     ensures { Gave
-        (plane_cut (cell_of cell.now) (through_of through.now) tol
+        (plane_cut (cell_of cell.now) (through_of through.now) strictness tol
         (lengths (buffers numbers.old nodes.old ends.old)))
         (section_told (stitched_in result)) (buffers numbers.old nodes.old ends.old)
         (buffers numbers.new nodes.new ends.new)
@@ -55,5 +57,5 @@ pub fn section_cell_by_plane(
         return Err(Refusal::ShortBuffer);
     }
     let cutting = CuttingPlane { plane, tol };
-    Ok(cuts::section_cell(&accepted, &cutting, numbers, nodes, ends))
+    Ok(cuts::section_cell(&accepted, &cutting, strictness, numbers, nodes, ends))
 }

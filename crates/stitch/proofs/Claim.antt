@@ -16,8 +16,8 @@ use Rattle.walk.proofs.Lists.{all_map}
 use Rattle.stitch.proofs.Once.{walked_once, walked_no_other, walked_fair, walked_all}
 use Rattle.stitch.proofs.Even.{closed_when_even}
 use Rattle.stitch.proofs.Joined.{Sound, all_joined, all_sound, sound_three}
-use Rattle.stitch.proofs.Loops.{loops_three, loops_listed, loops_unrepeated, loops_few, loops_in, three_each}
-use Rattle.stitch.proofs.Counted.{counts_listed, counts_in_walks}
+use Rattle.stitch.proofs.Loops.{loops_different, loops_three, loops_listed, loops_unrepeated, loops_few, loops_in, three_each}
+use Rattle.stitch.proofs.Counted.{counts_listed, counts_in_walks, counts_usual}
 use Rattle.stitch.proofs.Listed.{listed_when}
 
 -- ---- the claim
@@ -52,8 +52,10 @@ claim rule ss =
       nodes_are_points = loops_in es (length ps) within (loops ps rule ws) neighbours;
       neighbours = neighbours;
       unrepeated = loops_unrepeated ps rule es simple distinct ws sound (walked_fair ps es);
+      different = loops_different ps rule ws;
       counts_are = refl;
       adds_up = counts_listed ps rule (length es) ws ∙ sym all ∙ sym (counts_in_walks ps rule (length es) ws);
+      usual = counts_usual ps rule (length es) ws;
       even = closed_when_even ps es simple within;
       few_points = points_at_most rule.tol2 ss;
       few_nodes = omega arith;

@@ -15,6 +15,7 @@ use Rattle.weld.proofs.Comparisons.{comparisons_few, comparisons_some, most_comp
 use Rattle.stitch.specs.Stitch.{rule_of}
 use Rattle.stitch.specs.Claim.{ComparisonsOf}
 use Rattle.stitch.specs.Comparisons.{FewCompared, NanCompared, StitchCompared, stitch_comparisons}
+use Rattle.stitch.specs.declared.Strictness.TheVariants.{Usual}
 use Rattle.stitch.specs.Entry.{Lengths, StitchSection, stitch_alone}
 use Rattle.stitch.proofs.Entries.{stitch_sound}
 
@@ -26,15 +27,15 @@ few_compared {ss = ss} c h = most_of_384 _ (length ss) c.few h
 
 -- ---- stitching alone
 
-pub refused_compared : (xs : List Float) (tol : Float) (l : Lengths) {k : ℕ} → stitch_alone xs tol l ≡ refused k
+pub refused_compared : (xs : List Float) (tol : Float) (l : Lengths) {k : ℕ} → stitch_alone xs Usual tol l ≡ refused k
     → 0 ≡ told_count (stitch_comparisons xs tol l)
 refused_compared xs tol l e = rw e
 
 pub stitch_compared : StitchCompared
 stitch_compared xs tol l =
     let ss = segs 2 (length xs / 4) xs in
-    sound_then 7 8 (StitchSection xs tol) (λ n. (length ss ≤ 384) × ComparisonsOf (rule_of tol).tol2 ss n) (stitch_alone xs tol l)
-    (λ _. found (comparisons (rule_of tol).tol2 ss)) (stitch_sound xs tol l)
+    sound_then 7 8 (StitchSection xs Usual tol) (λ n. (length ss ≤ 384) × ComparisonsOf (rule_of tol).tol2 ss n) (stitch_alone xs Usual tol l)
+    (λ _. found (comparisons (rule_of tol).tol2 ss)) (stitch_sound xs Usual tol l)
     (λ _ s. (omega (arith, s.few, segs_length 2 (length xs / 4) xs), comparisons_of (rule_of tol).tol2 ss refl))
 
 pub stitch_few : FewCompared

@@ -2,6 +2,7 @@ pub mod Lists
 pub mod Once
 pub mod Even
 pub mod Joined
+pub mod Repeated
 pub mod Loops
 pub mod Counted
 pub mod Listed

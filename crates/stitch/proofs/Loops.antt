@@ -15,14 +15,16 @@ use Rattle.weld.specs.declared.Edge.{Edge}
 use Rattle.weld.specs.Weld.{same, between, listed, Simple, Within, Distinct}
 use Rattle.weld.proofs.Edges.{between_sym, same_eq, same_self, listed_at, newer_unlisted}
 use Rattle.stitch.specs.declared.Rule.{Rule}
+use Rattle.stitch.specs.declared.Strictness.TheVariants.{Strict}
 use Rattle.walk.specs.Walk.{edge_at, Walk}
-use Rattle.stitch.specs.Stitch.{signed_area, kind_of, kind_by, kind, is_loop, turned, loops}
+use Rattle.stitch.specs.Stitch.{signed_area, repeated, pinches, kind_of, kind_by, kind, is_loop, turned, loops}
 use Rattle.walk.specs.Walk.{All}
-use Rattle.stitch.specs.Claim.{bit, times, times_edge, edges_walked, Joined, trail, last_or, steps, sides, sides_of}
+use Rattle.stitch.specs.Claim.{AllDifferent, bit, times, times_edge, edges_walked, Joined, trail, last_or, steps, sides, sides_of}
 use Rattle.stitch.specs.Code.{edges_in}
 use Rattle.walk.proofs.Lists.{all_map}
 use Rattle.stitch.proofs.Lists.{Fair, fair_head, fair_tail, fair_apart}
 use Rattle.stitch.proofs.Joined.{Sound, sound_three}
+use Rattle.stitch.proofs.Repeated.{unrepeated_once, turned_times}
 
 times_edges : (e : Edge) (l m : List Edge) → times_edge e (l ++ m) ≡ times_edge e l + times_edge e m
 times_edges e [] m = omega arith
@@ -175,11 +177,20 @@ module _ (es : List Edge) (distinct : Distinct es) where
 -- ---- the loops of walks
 pub loop_closed : (ps : List Vector) (rule : Rule) (w : Walk) → is_loop (kind ps rule w) ≡ true → w.closed ≡ true
 unfolding kind_by
-loop_closed ps rule w = by_test w.closed (lt rule.tol2 _)
+loop_closed ps rule w = by_test w.closed (pinches rule.strictness w.nodes) (lt rule.tol2 _)
   where
-    by_test : (b c : Bool) → is_loop (kind_of b c) ≡ true → b ≡ true
-    by_test true c e = refl
-    by_test false c e = absurd (false≢true e)
+    by_test : (b p c : Bool) → is_loop (kind_of b p c) ≡ true → b ≡ true
+    by_test true p c e = refl
+    by_test false p c e = absurd (false≢true e)
+
+loop_unpinched : (ps : List Vector) (rule : Rule) (w : Walk) → is_loop (kind ps rule w) ≡ true → pinches rule.strictness w.nodes ≡ false
+unfolding kind_by
+loop_unpinched ps rule w = by_test w.closed (pinches rule.strictness w.nodes) (lt rule.tol2 _)
+  where
+    by_test : (b p c : Bool) → is_loop (kind_of b p c) ≡ true → p ≡ false
+    by_test b false c e = refl
+    by_test true true c e = absurd (false≢true e)
+    by_test false true c e = absurd (false≢true e)
 
 -- a property of every loop from one of every walk that is a loop
 loops_all : (P : List ℕ → Type 0) (ps : List Vector) (rule : Rule) (ws : List Walk)
@@ -263,6 +274,20 @@ module _ (ps : List Vector) (rule : Rule) (es : List Edge) (simple : Simple es) 
           let z = length-append (turned ps w.nodes) (flatten (loops ps rule ws)) in
           omega arith
       by_test false q r = omega arith
+
+-- ---- in the strict way a loop's nodes are all different
+pub loops_different : (ps : List Vector) (rule : Rule) (ws : List Walk) → rule.strictness ≡ Strict → All AllDifferent (loops ps rule ws)
+loops_different ps rule ws e = loops_all AllDifferent ps rule ws (each ws)
+  where
+    one : (w : Walk) → is_loop (kind ps rule w) ≡ true → AllDifferent (turned ps w.nodes)
+    one w κ k =
+        let u : repeated w.nodes ≡ false = rw e at (loop_unpinched ps rule w κ) in
+        let n = unrepeated_once w.nodes u k in
+        omega (arith, turned_times ps w.nodes k)
+
+    each : (vs : List Walk) → All (λ w. is_loop (kind ps rule w) ≡ true → AllDifferent (turned ps w.nodes)) vs
+    each [] = tt
+    each (w ∷ vs) = (one w, each vs)
 
 pub three_each : (ls : List (List ℕ)) → All (λ l. 3 ≤ length l) ls → 3 * length ls ≤ length (flatten ls)
 unfolding flatten

@@ -17,7 +17,7 @@ use Rattle.walk.specs.Walk.{edge_at, other, next_edge, rest, walk_from, walks_fr
 use Rattle.stitch.specs.Claim.{bit, times, edges_walked}
 use Rattle.stitch.proofs.Lists.{times_append, times_self, Fair}
 use Rattle.walk.specs.Code.{unused}
-use Rattle.walk.proofs.Marks.{unused_set, fresh_unused}
+use Rattle.walk.proofs.Marks.{unused_set, fresh_mark, fresh_unused}
 use Rattle.walk.proofs.Junction.{next_free}
 
 -- ---- marks as numbers
@@ -34,12 +34,6 @@ set_bit (u ∷ us) (suc k) (suc j) h = rw (eqb-suc-suc k j) (set_bit us k j h)
 bit_le : (b : Bool) → bit b ≤ 1
 bit_le true = omega arith
 bit_le false = omega arith
-
--- no mark of a fresh list is set
-fresh_bit : (n j : ℕ) → bit (get_or (replicate n false) j false) ≡ 0
-fresh_bit zero j = refl
-fresh_bit (suc n) zero = refl
-fresh_bit (suc n) (suc j) = fresh_bit n j
 
 -- a choice is an unused edge
 abbrev pub Chosen : Option ℕ → List Bool → Type 0
@@ -210,7 +204,7 @@ module _ (ps : List Vector) (es : List Edge) where
       let us = replicate (length es) false in
       let n = fresh in
       let q = walks_times es 0 (get_or us 0 true) us (omega arith) refl (λ i m. absurd (not-suc-le-zero m)) k (omega arith) in
-      let f = fresh_bit (length es) k in
+      let f : bit (get_or (replicate (length es) false) k false) ≡ 0 = ap bit (fresh_mark (length es) k) in
       omega arith
 
   pub walked_no_other : (k : ℕ) → length es ≤ k → times k (edges_walked (walks ps es)) ≡ 0

@@ -100,8 +100,8 @@ module _ (ps : List Vector) {es : List Edge} {us : List Bool} {tally : Tally} {w
 
   module _ {nodes-walked : ℕ} {closed : Bool} {us' : List Bool} {buffer : List ℕ}
       (went : Went w nodes-walked closed us' buffer) where
-    pub finishing : (n : ℕ) → Within es n → Finishing n (take nodes-walked buffer) closed tally nodes ends
-    finishing n within =
+    pub finishing : (n : ℕ) → Within es n → n ≤ 768 → Finishing n (take nodes-walked buffer) closed tally nodes ends
+    finishing n within few =
         let l = left in
         let f = few_nodes in
         let m = marks in
@@ -109,6 +109,7 @@ module _ (ps : List Vector) {es : List Edge} {us : List Bool} {tally : Tally} {w
         (record {
           some = omega arith;
           below = walk_below ps es n within k us inside;
+          few = few;
           small = omega (arith, spare.few);
           nodes_room = λ c. (let e = closed_nodes c in omega (arith, spare.nodes_room));
           ends_room = room_for_end;

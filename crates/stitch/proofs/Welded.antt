@@ -2,7 +2,7 @@
 use mathlib.Core.Path.{◌≡◌, refl, ap, sym, ◌∙◌, subst}
 use mathlib.Core.List.{List, [], ◌∷◌, ◌++◌, append_assoc, flatten}
 use mathlib.Core.Bool.{false}
-use Prim.Native.Nat.{ℕ, zero, suc, ◌+◌, ◌*◌, ◌-◌, ◌≤◌, ◌<◌}
+use Prim.Native.Nat.{ℕ, zero, suc, ◌+◌, ◌*◌, ◌-◌, ◌/◌, ◌≤◌, ◌<◌}
 use native.Mathlib.Omega.{arith}
 use lib.Ieee.{Float}
 use lib.ListN.{length, take, drop, replicate, take-append-drop}
@@ -94,6 +94,10 @@ module _ (rule : Rule) {ss : List Float} {s : ℕ} {zs₀ : List Float} {n m : �
   module _ (kept : length zs ≡ length zs₀) where
     points_fit : 2 * n ≤ length zs
     points_fit = omega (arith, w.few_points, lent.for_points)
+
+    -- and there is a mark for each
+    pub few_points : length (take (2 * n) zs) / 2 ≤ 768
+    few_points = omega (arith, w.few_points, lent.few, length-take-le (2 * n) zs points_fit)
 
     numbers : zs ≡ over (flatten (welded_points rule.tol2 (segs 2 s ss))) zs₀
     numbers =

@@ -6,6 +6,7 @@ use Rattle.vector.specs.Rows.{Seg}
 use Rattle.weld.specs.declared.Edge.{Edge}
 use Rattle.weld.specs.Weld.{same, between, listed, becomes, welded_points, listed_edges, comparisons, Simple, Within, Distinct}
 use Rattle.stitch.specs.declared.Rule.{Rule}
+use Rattle.stitch.specs.declared.Strictness.TheVariants.{Usual, Strict}
 use Rattle.walk.specs.Walk.{All, edge_at, touches, Walk, walks}
 use Rattle.stitch.specs.Stitch.{loops, in_walks, counts_of, Answer}
 
@@ -20,6 +21,10 @@ bit false = 0
 abbrev pub times : ℕ → List ℕ → ℕ
 times k [] = 0
 times k (j ∷ l) = bit (eqb j k) + times k l
+
+-- no number stands twice in a list
+abbrev pub AllDifferent : List ℕ → Type 0
+AllDifferent l = (k : ℕ) → times k l ≤ 1
 
 -- how often the edge e stands in a list
 abbrev pub times_edge : Edge → List Edge → ℕ
@@ -106,10 +111,14 @@ pub record ClaimOf (rule : Rule) (ss : List Seg) (es : List Edge) (ws : List Wal
   pub neighbours : All (λ l. All (λ e. listed e es ≡ true) (sides l)) a.loops
   -- no listed edge is used a second time in any loop returned, counted over all loops together
   pub unrepeated : (e : Edge) → times_edge e (sides_of a.loops) ≤ 1
-  -- the counts are those of the listed edges and of the edges in loops, flat walks and open walks
+  -- in the strict way a loop's nodes are all different
+  pub different : rule.strictness ≡ Strict → All AllDifferent a.loops
+  -- the counts are those of the listed edges and of the edges in loops, pinched walks, flat walks and open walks
   pub counts_are : a.counts ≡ counts_of a.points rule (length es) ws
-  -- listed = in loops + flat + open
+  -- listed = in loops + pinched + flat + open
   pub adds_up : a.counts.listed ≡ in_walks a.counts
+  -- in the usual way none is pinched
+  pub usual : rule.strictness ≡ Usual → a.counts.pinched ≡ 0
   -- there is no open walk exactly when every welded point ends an even number of listed edges
   pub even : All (λ w. w.closed ≡ true) ws ↔ ((v : ℕ) → v < length a.points → degree v es % 2 ≡ 0)
   -- the sizes that follow: at most 2s points, s nodes and s / 3 loops from s segments

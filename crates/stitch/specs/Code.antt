@@ -37,6 +37,8 @@ pub record Finished (κ : Kind) (l : List ℕ) (m : ℕ) (tally : Tally) (nodes 
 pub record Finishing (n : ℕ) (walked : List ℕ) (closed : Bool) (tally : Tally) (nodes ends : List ℕ) : Type 0 where
   pub some : 0 < length walked
   pub below : Below n walked
+  -- so that a mark for each point has room
+  pub few : n ≤ 768
   -- so that no sum of counts wraps
   pub small : in_walks tally.counts + length walked < 65536
   pub nodes_room : closed ≡ true → tally.counts.in_loops + length walked ≤ length nodes

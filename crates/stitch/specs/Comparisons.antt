@@ -11,10 +11,11 @@ use Rattle.stitch.specs.Claim.{ComparisonsOf}
 use Rattle.stitch.specs.Entry.{Lengths, stitch_alone}
 use Rattle.stitch.specs.declared.Stitched.{Stitched}
 use Rattle.stitch.specs.declared.StitchedSegments.{StitchedSegments}
+use Rattle.stitch.specs.declared.Strictness.TheVariants.{Usual}
 
--- refused as stitching alone is, and else the comparisons of the segments that were handed over
+-- refused as stitching alone is, and else the comparisons of the segments that were handed over; the way has no part in either
 abbrev pub stitch_comparisons : List Float → Float → Lengths → Outcome ℕ
-stitch_comparisons xs tol l = and_then (stitch_alone xs tol l) (λ a. found (comparisons (rule_of tol).tol2 (segs 2 (length xs / 4) xs)))
+stitch_comparisons xs tol l = and_then (stitch_alone xs Usual tol l) (λ a. found (comparisons (rule_of tol).tol2 (segs 2 (length xs / 4) xs)))
 
 -- ---- the code's answer
 

@@ -1,16 +1,18 @@
 -- Stitching alone, as an equation over every input; and what the caller of an entry that gives a section sees. Definitions and statements
 -- only; the theorems are in proofs/Entries.antt.
-use Rattle.std.specs.Prelude.{◌≡◌, Bool, ◌&&◌, Result, Ok, Err, ℕ, ◌*◌, ◌/◌, ◌%◌, ◌≤◌, eqb, leb, length, Float}
+use Rattle.std.specs.Prelude.{◌≡◌, Bool, ◌&&◌, cond, Result, Ok, Err, ℕ, ◌*◌, ◌/◌, ◌%◌, ◌≤◌, eqb, leb, length, Float}
 use mathlib.Core.List.{List, [], flatten}
 use Rattle.rows.specs.Outcome.{Outcome, refused, found, unless, Sound}
 use Rattle.rows.specs.Refusals.{number}
 use Rattle.rows.specs.declared.Refusal.{Refusal}
 use Rattle.vector.specs.Vector.{Vector}
 use Rattle.vector.specs.Rows.{rows, segs, over, ends_from}
-use Rattle.stitch.specs.Stitch.{Answer, in_walks, rule_of, stitched, unwalked}
+use Rattle.stitch.specs.Stitch.{Answer, in_walks, rule_by, stitched_by, unwalked}
 use Rattle.stitch.specs.Claim.{Claim}
 use Rattle.stitch.specs.Code.{answer_in}
 use Rattle.stitch.specs.declared.Stitched.{Stitched}
+use Rattle.stitch.specs.declared.Strictness.{Strictness}
+use Rattle.stitch.specs.declared.Strictness.TheVariants.{Usual, Strict}
 
 -- ---- the buffers that are lent
 
@@ -92,21 +94,25 @@ pub record Gave (o : Outcome Answer) (r : Told) (b b' : Buffers) : Type 0 where
 
 -- ---- stitching alone
 
+-- the way that a yes or no asks for: 0 is no, anything else is yes
+abbrev pub strictness_of : ℕ → Strictness
+strictness_of n = cond (eqb n 0) Usual Strict
+
 -- 8 is tested before 7
-abbrev pub stitch_alone : List Float → Float → Lengths → Outcome Answer
-stitch_alone xs tol l =
+abbrev pub stitch_alone : List Float → Strictness → Float → Lengths → Outcome Answer
+stitch_alone xs way tol l =
     let s = length xs / 4 in
-    unless 8 (eqb (length xs % 4) 0 && leb s 384) (unless 7 (room (4 * s) s (s / 3) l) (found (stitched tol (segs 2 s xs))))
+    unless 8 (eqb (length xs % 4) 0 && leb s 384) (unless 7 (room (4 * s) s (s / 3) l) (found (stitched_by way tol (segs 2 s xs))))
 
 -- The answer a is the stitching of the segments that were handed over, and the claim holds of it.
-pub record StitchSection (xs : List Float) (tol : Float) (a : Answer) : Type 0 where
+pub record StitchSection (xs : List Float) (way : Strictness) (tol : Float) (a : Answer) : Type 0 where
   pub fours : length xs % 4 ≡ 0
   pub few : length xs / 4 ≤ 384
-  pub claim : Claim (rule_of tol) (segs 2 (length xs / 4) xs) a
+  pub claim : Claim (rule_by way tol) (segs 2 (length xs / 4) xs) a
 
 -- Stitching alone answers with refusal 7 or 8, or with such a section.
 abbrev pub StitchSound : Type 0
-StitchSound = (xs : List Float) (tol : Float) (l : Lengths) → Sound 7 8 (StitchSection xs tol) (stitch_alone xs tol l)
+StitchSound = (xs : List Float) (way : Strictness) (tol : Float) (l : Lengths) → Sound 7 8 (StitchSection xs way tol) (stitch_alone xs way tol l)
 
 -- the answer that a caller reads from what was told and from the buffers
 abbrev pub answer_read : Told → Buffers → Answer
@@ -115,8 +121,8 @@ answer_read r b = answer_in r.answer b.numbers b.nodes b.ends
 -- And so it is with what the caller reads: where no refusal is told, the answer in the buffers is such a section.
 abbrev pub StitchClaim : Type 0
 StitchClaim =
-    (xs : List Float) (tol : Float) (r : Told) (b b' : Buffers) → Gave (stitch_alone xs tol (lengths b)) r b b' → r.refusal ≡ 0
-    → StitchSection xs tol (answer_read r b')
+    (xs : List Float) (way : Strictness) (tol : Float) (r : Told) (b b' : Buffers) → Gave (stitch_alone xs way tol (lengths b)) r b b'
+    → r.refusal ≡ 0 → StitchSection xs way tol (answer_read r b')
 
 -- ---- how much a section holds
 
@@ -130,4 +136,4 @@ pub record Small (r : Told) : Type 0 where
   pub adds_up : r.answer.counts.listed ≡ in_walks r.answer.counts
 
 abbrev pub StitchSmall : Type 0
-StitchSmall = (xs : List Float) (tol : Float) (l : Lengths) → Small (told (stitch_alone xs tol l))
+StitchSmall = (xs : List Float) (way : Strictness) (tol : Float) (l : Lengths) → Small (told (stitch_alone xs way tol l))

@@ -8,8 +8,9 @@ ghost use Rattle.std.proofs.Math.Seq.{paste};
 ghost use Rattle.vector.specs.Rows.{all_rows, all_segs};
 ghost use Rattle.walk.specs.Walk.{point_at, walks};
 ghost use Rattle.walk.specs.Code.{Below};
-ghost use Rattle.stitch.specs.Stitch.{cross2, in_walks, kind_by, plus_walk, rule_of, signed_area, turned};
+ghost use Rattle.stitch.specs.Stitch.{cross2, in_walks, kind_by, pinches, plus_walk, repeated, rule_by, signed_area, turned};
 ghost use Rattle.stitch.specs.Claim.{ComparisonsOf};
+ghost use Rattle.stitch.specs.Entry.{strictness_of};
 ghost use Rattle.stitch.specs.Code.{Counting, Finished, Finishing, Spare, Stitchable, Stitches, Turn, Wrote, edges_in};
 
 use walk::Graph;
@@ -24,11 +25,12 @@ pub struct Stitched {
     pub counts: Counts,
 }
 
-// Edges: how many are listed, and how many of them are in walks that are loops, flat or open.
+// Edges: how many are listed, and how many of them are in walks that are loops, pinched, flat or open.
 #[derive(Clone, Copy)]
 pub struct Counts {
     pub listed: usize,
     pub in_loops: usize,
+    pub pinched: usize,
     pub flat: usize,
     pub opened: usize,
 }
@@ -44,6 +46,7 @@ pub struct StitchedSegments {
 #[derive(Clone, Copy)]
 pub enum Kind {
     Loop,
+    Pinched,
     Flat,
     Open,
 }
@@ -59,6 +62,10 @@ impl Counts {
                 in_loops: self.in_loops + edges,
                 ..self
             },
+            Kind::Pinched => Counts {
+                pinched: self.pinched + edges,
+                ..self
+            },
             Kind::Flat => Counts {
                 flat: self.flat + edges,
                 ..self
@@ -71,10 +78,31 @@ impl Counts {
     }
 }
 
-// What decides that a closed walk is a loop: the squared tolerance.
+// Which closed walks are loops. In the usual way, the Rust's, one that passes a point twice is as any other; in the strict way it is
+// pinched, and not returned.
+#[derive(Clone, Copy)]
+pub enum Strictness {
+    Usual,
+    Strict,
+}
+
+// By a yes or no, as C hands it over: 0 is no.
+impl From<u8> for Strictness {
+    ghost from_gives = { λ strict way. way ≡ strictness_of strict };
+
+    fn from(strict: u8) -> Self {
+        match strict {
+            0 => Strictness::Usual,
+            _ => Strictness::Strict,
+        }
+    }
+}
+
+// What decides that a closed walk is a loop: the squared tolerance, and the way.
 #[derive(Clone, Copy)]
 pub struct Rule {
     pub tol2: f64,
+    pub strictness: Strictness,
 }
 
 // Stitches the plane segments of a single cell, four numbers each, into closed loops.
@@ -84,17 +112,21 @@ pub struct Rule {
 // below: a struct of them would have to promise in each function that they stay lent.
 pub fn stitch_segments(
     segments: &[f64],
+    strictness: Strictness,
     tol: f64,
     numbers: &mut [f64],
     nodes: &mut [u32],
     ends: &mut [u32],
 ) -> StitchedSegments
     requires { Stitchable (length segments.now / 4) numbers.old nodes.old ends.old }
-    ensures { Stitches (rule_of tol) (all_segs 2 segments.now) result.stitched
+    ensures { Stitches (rule_by strictness tol) (all_segs 2 segments.now) result.stitched
         numbers.old numbers.new nodes.old nodes.new ends.old ends.new
-        × ComparisonsOf (rule_of tol).tol2 (all_segs 2 segments.now) result.comparisons }
+        × ComparisonsOf (rule_by strictness tol).tol2 (all_segs 2 segments.now) result.comparisons }
 {
-    let rule = Rule { tol2: tol * tol };
+    let rule = Rule {
+        tol2: tol * tol,
+        strictness,
+    };
     if segments.len() / 4 <= 16 {
         return stitch_within::<16, 32>(segments, rule, numbers, nodes, ends);
     }
@@ -158,7 +190,7 @@ fn stitch_edges(
     ends: &mut [u32],
 ) -> Tally
     requires { Spare graph.now.edges.now walked.old nodes.old ends.old
-        × (used.old ≡ replicate (length graph.now.edges.now) false) }
+        × (used.old ≡ replicate (length graph.now.edges.now) false) × (length graph.now.points.now / 2 ≤ 768) }
     ensures { Wrote (all_rows 2 graph.now.points.now) rule (length graph.now.edges.now)
         (walks (all_rows 2 graph.now.points.now) graph.now.edges.now) result
         nodes.old nodes.new ends.old ends.new }
@@ -168,6 +200,7 @@ fn stitch_edges(
         counts: Counts {
             listed: graph.edges.len(),
             in_loops: 0,
+            pinched: 0,
             flat: 0,
             opened: 0,
         },
@@ -190,7 +223,8 @@ fn stitch_from(
     tally: &mut Tally,
 )
     requires { Spare graph.now.edges.now walked.old nodes.old ends.old × (k < length graph.now.edges.now)
-        × (length used.old ≡ length graph.now.edges.now) × Counting tally.old used.old }
+        × (length used.old ≡ length graph.now.edges.now) × Counting tally.old used.old
+        × (length graph.now.points.now / 2 ≤ 768) }
     ensures { Turn (all_rows 2 graph.now.points.now) graph.now.edges.now rule
         k (get_or used.old k true) used.old tally.old nodes.old ends.old
         used.new tally.new nodes.new ends.new }
@@ -233,6 +267,10 @@ fn finish(
         tally.counts = counts.plus(Kind::Open, m - 1);
         return;
     }
+    if is_pinched(walked, rule.strictness) {
+        tally.counts = counts.plus(Kind::Pinched, m);
+        return;
+    }
     let area = signed_area(graph, walked);
     if rule.tol2 < vector::absolute(area) {
         put_loop(walked, area < 0.0, nodes, counts.in_loops);
@@ -242,6 +280,33 @@ fn finish(
         return;
     }
     tally.counts = counts.plus(Kind::Flat, m);
+}
+
+// Whether a closed walk with these nodes is pinched.
+fn is_pinched(nodes: &[u32], strictness: Strictness) -> bool
+    requires { Below 768 nodes.now }
+    ensures { result ≡ pinches strictness nodes.now }
+{
+    match strictness {
+        Strictness::Usual => false,
+        Strictness::Strict => has_repeated(nodes),
+    }
+}
+
+// Whether some node stands twice, by a mark for each point. Not inlined, so that the marks are cleared in the strict way only.
+#[inline(never)]
+fn has_repeated(nodes: &[u32]) -> bool
+    requires { Below 768 nodes.now }
+    ensures { result ≡ repeated nodes.now }
+{
+    let mut seen = [false; 768];
+    for &node in nodes {
+        if seen[node as usize] {
+            return true;
+        }
+        seen[node as usize] = true;
+    }
+    false
 }
 
 // Half the sum of the cross products of cyclic neighbours.

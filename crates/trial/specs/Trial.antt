@@ -8,11 +8,12 @@ use Rattle.clip.specs.Clip.{Cut, plane_section_segments}
 use Rattle.clip.specs.Cell.{at_most}
 use Rattle.clip.specs.Code.{Segments}
 use Rattle.clip.specs.Defaulted.{defaulted}
-use Rattle.stitch.specs.Stitch.{rule_of}
+use Rattle.stitch.specs.Stitch.{rule_by}
 use Rattle.stitch.specs.Claim.{ComparisonsOf}
 use Rattle.stitch.specs.Code.{Stitches}
 use Rattle.stitch.specs.Entry.{nothing}
 use Rattle.stitch.specs.declared.Stitched.{Stitched}
+use Rattle.stitch.specs.declared.Strictness.{Strictness}
 use Rattle.trial.specs.declared.Answer.{Answer}
 use Rattle.trial.specs.declared.Clipped.{Clipped}
 
@@ -57,15 +58,15 @@ stitched_in r =
       points = r.points;
       nodes = r.nodes;
       loops = r.loops;
-      counts = record { listed = r.listed; in_loops = r.in_loops; flat = r.flat; opened = r.opened };
+      counts = record { listed = r.listed; in_loops = r.in_loops; pinched = r.pinched; flat = r.flat; opened = r.opened };
     }
 
 -- the answer where the lengths fit
-pub record Stitching (segments : List Float) (tol : Float) (r : Answer) (points points' : List Float) (nodes nodes' ends ends' : List ℕ)
+pub record Stitching (segments : List Float) (way : Strictness) (tol : Float) (r : Answer) (points points' : List Float) (nodes nodes' ends ends' : List ℕ)
     : Type 0 where
   pub said : r.fitted ≡ 1
-  pub stitches : Stitches (rule_of tol) (segs 2 (length segments / 4) segments) (stitched_in r) points points' nodes nodes' ends ends'
-  pub compared : ComparisonsOf (rule_of tol).tol2 (segs 2 (length segments / 4) segments) r.comparisons
+  pub stitches : Stitches (rule_by way tol) (segs 2 (length segments / 4) segments) (stitched_in r) points points' nodes nodes' ends ends'
+  pub compared : ComparisonsOf (rule_by way tol).tol2 (segs 2 (length segments / 4) segments) r.comparisons
 
 -- the answer where they do not: nothing is told, and the buffers are as they were
 pub record Unstitched (r : Answer) (points points' : List Float) (nodes nodes' ends ends' : List ℕ) : Type 0 where

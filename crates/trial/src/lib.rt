@@ -8,10 +8,11 @@ ghost use Rattle.vector.specs.Rows.{put, row};
 ghost use Rattle.vector.specs.Vector.{line_of, normal_along, plane_of, unit};
 ghost use Rattle.vector.specs.Tolerance.{tolerance};
 ghost use Rattle.stitch.specs.Code.{Stitchable};
+ghost use Rattle.stitch.specs.Entry.{strictness_of};
 ghost use Rattle.trial.specs.Trial.{ClipFits, Clips, FrameGiven, Refused, Stitching, Total, Unclipped, UnitGiven, Unstitched, deprojected, plane_in, projected, stitched_in};
 
 use clip::polygon::{Cut, plane_section_segments};
-use stitch::StitchedSegments;
+use stitch::{StitchedSegments, Strictness};
 use vector::{Plane, coord, put};
 
 // The answer to lengths that do not fit.
@@ -107,6 +108,7 @@ pub struct Answer {
     pub loops: usize,
     pub listed: usize,
     pub in_loops: usize,
+    pub pinched: usize,
     pub flat: usize,
     pub opened: usize,
     pub comparisons: usize,
@@ -124,6 +126,7 @@ impl From<StitchedSegments> for Answer {
             loops: s.loops,
             listed: s.counts.listed,
             in_loops: s.counts.in_loops,
+            pinched: s.counts.pinched,
             flat: s.counts.flat,
             opened: s.counts.opened,
             comparisons: stitching.comparisons,
@@ -135,13 +138,14 @@ impl From<StitchedSegments> for Answer {
 #[unsafe(no_mangle)]
 pub extern "C" fn trial_stitch(
     segments: &[f64],
+    strict: u8,
     tol: f64,
     points: &mut [f64],
     nodes: &mut [u32],
     ends: &mut [u32],
 ) -> Answer
     ensures { Total (Stitchable (length segments.now / 4) points.old nodes.old ends.old)
-        (Stitching segments.now tol result points.old points.new nodes.old
+        (Stitching segments.now (strictness_of strict) tol result points.old points.new nodes.old
         nodes.new ends.old ends.new)
         (Unstitched result points.old points.new nodes.old nodes.new
         ends.old ends.new) }
@@ -150,7 +154,7 @@ pub extern "C" fn trial_stitch(
     if s > 384 || points.len() < 4 * s || nodes.len() < s || ends.len() < s / 3 {
         return Answer::default();
     }
-    stitch::stitch_segments(segments, tol, points, nodes, ends).into()
+    stitch::stitch_segments(segments, Strictness::from(strict), tol, points, nodes, ends).into()
 }
 
 // The tolerance of coordinates in space.

@@ -20,6 +20,11 @@ unused_set (true ∷ l) (suc k) h = unused_set l k h
 unused_set (false ∷ l) (suc k) h = ap suc (unused_set l k h)
 
 -- no mark of a fresh list is set
+pub fresh_mark : (n k : ℕ) → get_or (replicate n false) k false ≡ false
+fresh_mark zero k = refl
+fresh_mark (suc n) zero = refl
+fresh_mark (suc n) (suc k) = fresh_mark n k
+
 pub fresh_unused : (n : ℕ) → unused (replicate n false) ≡ n
 fresh_unused zero = refl
 fresh_unused (suc n) = ap suc (fresh_unused n)

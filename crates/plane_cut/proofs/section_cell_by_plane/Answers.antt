@@ -23,7 +23,7 @@ returns-in_err-accepted c =
     let l = lengths (buffers g.numbers.now g.nodes.now g.ends.now) in
     let by = place_in Normal (through_of g.through.now) in
     rw (p.1, p.2) (
-      gave_refusal _ (cell_refused by (section_in g.tol l) c.in_err-accepted.ensures),
+      gave_refusal _ (cell_refused by (section_in g.strictness g.tol l) c.in_err-accepted.ensures),
       none_counted (cell_refused by (defaulted_in g.tol l) c.in_err-accepted.ensures),
       none_counted (cell_refused by (comparisons_in g.tol l) c.in_err-accepted.ensures),
     )
@@ -38,7 +38,7 @@ returns-in_err-plane c =
     let m = counted k.accepted k.ensures in
     let no = sym c.in_err-plane.ensures in
     rw (p.1, p.2) (
-      gave_refusal _ (place_refused a m (section_in g.tol l) no),
+      gave_refusal _ (place_refused a m (section_in g.strictness g.tol l) no),
       none_counted (place_refused a m (defaulted_in g.tol l) no),
       none_counted (place_refused a m (comparisons_in g.tol l) no),
     )
@@ -58,7 +58,7 @@ returns-then-not-room c =
     let m = counted k.accepted k.ensures in
     let on = sym c.place.ensures ∙ ap outcome_of c.in_ok-plane.was in
     let short = sym c.room.ensures ∙ c.if-not-room.true in (
-      gave_refusal _ (at_work a m (section_in g.tol l) on (test_failed 7 _ _ short)),
+      gave_refusal _ (at_work a m (section_in g.strictness g.tol l) on (test_failed 7 _ _ short)),
       none_counted (at_work a m (defaulted_in g.tol l) on (test_failed 7 _ _ short)),
       none_counted (at_work a m (comparisons_in g.tol l) on (test_failed 7 _ _ short)),
     )

@@ -14,7 +14,7 @@ finish-requires c =
     let g = c.args in
     finishing (all_rows 2 g.graph.now.points.now) g.k c.requires.2 c.requires.0 c.requires.3 c.requires.1
     (sym (get_or_default g.used.now g.k false true (omega arith)) ∙ c.if-used-k.false) c.walk-w.ensures
-    (length g.graph.now.points.now / 2) g.graph.now.within
+    (length g.graph.now.points.now / 2) g.graph.now.within c.requires.4
 
 pub returns : goal.returns
 returns c =
