@@ -106,16 +106,22 @@ extern "C" {
  * counted from 0; loops to ends, the number of nodes up to and with each loop. Loop k has the nodes from
  * ends[k - 1] (0 for the first) up to but not with ends[k], at least three of them, each less than points.
  * They stand in the order walked, or all in reverse where the walk's rounded area is negative. So the area
- * of a loop is positive but for rounding: a very thin one can have a negative rounded area both ways. A
- * loop may meet itself at a point, and then a part of it may run clockwise.
+ * of a loop is positive but for rounding: a very thin one can have a negative rounded area both ways. In the
+ * usual way a loop may pass a point twice, and then a part of it may run clockwise.
  *
  * A listed edge joins two different points, and no two listed edges join the same two. One joins any two
  * cyclic neighbours in a loop, and none is used a second time in any loop.
  *
- * listed = in_loops + flat + open, always. Listed edges that close without an area above the squared
- * tolerance are counted as flat, those that do not close as open; neither is drawn. So every listed edge
- * is drawn exactly where both are 0. A segment whose ends are one point within the tolerance is no edge,
- * one that repeats an edge adds none, and a corner at a distance of NaN counts as outside.
+ * listed = in_loops + pinched + flat + open, always. Listed edges that do not close are counted as open,
+ * and those that close without an area above the squared tolerance as flat. In the strict way those that
+ * close and pass a point twice are counted as pinched, whatever their area, and in the usual way pinched is
+ * 0. None of the three is drawn, so every listed edge is drawn exactly where all three are 0. A segment
+ * whose ends are one point within the tolerance is no edge, one that repeats an edge adds none, and a corner
+ * at a distance of NaN counts as outside.
+ *
+ * strict chooses the way: 0 is the usual one, anything else the strict one. In the strict way the nodes of
+ * a loop are all different; its loops are the usual ones without those that pass a point twice, in the same
+ * order, over the same points. Refusals, listed, open, defaulted and comparisons do not depend on it.
  *
  * defaulted is as above, and 0 of cicelybeam_stitch, which computes no crossing.
  *
@@ -130,6 +136,7 @@ struct cicelybeam_section {
   uint32_t loops;
   uint32_t listed;
   uint32_t in_loops;
+  uint32_t pinched;
   uint32_t flat;
   uint32_t open;
   uint32_t defaulted;
@@ -158,18 +165,19 @@ struct cicelybeam_tolerance {
  * crossing that was rounded may not count as on the plane, and its edge is then not found. Vectors need
  * not be of length 1. */
 
-/* A space cell cut by the plane through origin with this normal. Points are given in the plane, from
- * origin. Refuses 1 to 7. */
+/* A space cell cut by the plane through origin with this normal, in the strict way unless strict is 0.
+ * Points are given in the plane, from origin. Refuses 1 to 7. */
 struct cicelybeam_section cicelybeam_plane(uint8_t type, const uint64_t *conn, size_t conn_len,
                                            const double *coords, size_t coords_len,
                                            const double *origin, size_t origin_len,
-                                           const double *normal, size_t normal_len, double tol,
-                                           double *numbers, size_t numbers_len, uint32_t *nodes,
-                                           size_t nodes_len, uint32_t *ends, size_t ends_len);
+                                           const double *normal, size_t normal_len, uint8_t strict,
+                                           double tol, double *numbers, size_t numbers_len,
+                                           uint32_t *nodes, size_t nodes_len, uint32_t *ends,
+                                           size_t ends_len);
 
 /* The segments that cicelybeam_plane stitches, before they are stitched: those of each face, faces in their
  * order, in the plane, from origin; four numbers a segment, at most 3 * m / 2 segments. cicelybeam_stitch of
- * these numbers with the same tol gives what cicelybeam_plane gives but for defaulted, which is told here, where
+ * these numbers with the same strict and tol gives what cicelybeam_plane gives but for defaulted, which is told here, where
  * no call is refused. A face alone can be handed over as a PHED of one face; a cell's segments are those of its
  * faces, in their order, and its defaulted is their sum. Refuses 1 to 7. */
 struct cicelybeam_line cicelybeam_gather(uint8_t type, const uint64_t *conn, size_t conn_len,
@@ -179,7 +187,7 @@ struct cicelybeam_line cicelybeam_gather(uint8_t type, const uint64_t *conn, siz
                                          double *numbers, size_t numbers_len);
 
 /* A space cell cut by the line through origin with this direction: the cell is cut by a plane that holds
- * the line, and the line cuts the loops of that section. Flat and open pieces of the section are dropped,
+ * the line, and the line cuts the loops of that section, in the usual way. Flat and open pieces of the section are dropped,
  * and nothing tells of it; to know, cut the cell by a plane that holds the line. defaulted has both: the
  * crossings of that plane cut, and those made where the line cuts its loops. Refuses 1 to 7. */
 struct cicelybeam_line cicelybeam_line_in_space(uint8_t type, const uint64_t *conn, size_t conn_len,
@@ -204,10 +212,12 @@ struct cicelybeam_line cicelybeam_plane_cell_by_direction(uint8_t type, const ui
                                                           size_t direction_len, double tol,
                                                           double *numbers, size_t numbers_len);
 
-/* The polygons that segments in the plane form, four numbers a segment. Refuses 8 and 7. */
-struct cicelybeam_section cicelybeam_stitch(const double *segments, size_t segments_len, double tol,
-                                            double *numbers, size_t numbers_len, uint32_t *nodes,
-                                            size_t nodes_len, uint32_t *ends, size_t ends_len);
+/* The polygons that segments in the plane form, four numbers a segment; in the strict way unless strict is
+ * 0. Refuses 8 and 7. */
+struct cicelybeam_section cicelybeam_stitch(const double *segments, size_t segments_len,
+                                            uint8_t strict, double tol, double *numbers,
+                                            size_t numbers_len, uint32_t *nodes, size_t nodes_len,
+                                            uint32_t *ends, size_t ends_len);
 
 /* The tolerance of a mesh with these coordinates, in rows of 3 or of 2: never NaN, never negative, and
  * 1e-12 for a mesh without nodes. NaN coordinates are passed over. Refuses 3. */
