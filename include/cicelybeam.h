@@ -177,9 +177,9 @@ struct cicelybeam_section cicelybeam_plane(uint8_t type, const uint64_t *conn, s
 
 /* The segments that cicelybeam_plane stitches, before they are stitched: those of each face, faces in their
  * order, in the plane, from origin; four numbers a segment, at most 3 * m / 2 segments. cicelybeam_stitch of
- * these numbers with the same strict and tol gives what cicelybeam_plane gives but for defaulted, which is told here, where
- * no call is refused. A face alone can be handed over as a PHED of one face; a cell's segments are those of its
- * faces, in their order, and its defaulted is their sum. Refuses 1 to 7. */
+ * these numbers with the same strict and tol gives what cicelybeam_plane gives but for defaulted, which is
+ * told here, where no call is refused. A face alone can be handed over as a PHED of one face; a cell's
+ * segments are those of its faces, in their order, and its defaulted is their sum. Refuses 1 to 7. */
 struct cicelybeam_line cicelybeam_gather(uint8_t type, const uint64_t *conn, size_t conn_len,
                                          const double *coords, size_t coords_len,
                                          const double *origin, size_t origin_len,
@@ -187,9 +187,10 @@ struct cicelybeam_line cicelybeam_gather(uint8_t type, const uint64_t *conn, siz
                                          double *numbers, size_t numbers_len);
 
 /* A space cell cut by the line through origin with this direction: the cell is cut by a plane that holds
- * the line, and the line cuts the loops of that section, in the usual way. Flat and open pieces of the section are dropped,
- * and nothing tells of it; to know, cut the cell by a plane that holds the line. defaulted has both: the
- * crossings of that plane cut, and those made where the line cuts its loops. Refuses 1 to 7. */
+ * the line, in the usual way, and the line cuts the loops of that section. Flat and open pieces of the
+ * section are dropped, and nothing tells of it; to know, cut the cell by a plane that holds the line.
+ * defaulted has both: the crossings of that plane cut, and those made where the line cuts its loops. Refuses
+ * 1 to 7. */
 struct cicelybeam_line cicelybeam_line_in_space(uint8_t type, const uint64_t *conn, size_t conn_len,
                                                 const double *coords, size_t coords_len,
                                                 const double *origin, size_t origin_len,
