@@ -1,3 +1,4 @@
 pub mod PlaneCut
 pub mod Defaulted
 pub mod Comparisons
+pub mod Ways

@@ -51,6 +51,7 @@ impl TryFrom<u64> for Entry {
 #[derive(Clone, Copy)]
 pub struct Case<'a> {
     pub entry: Entry,
+    pub strict: u8,
     pub cell_type: u8,
     pub tol: f64,
     pub conn: &'a [u64],
@@ -74,11 +75,13 @@ impl Case<'_> {
             Entry::Plane => self.plane(lent),
             Entry::Stitch => cicelybeam_stitch(
                 self.coords,
+                self.strict,
                 self.tol,
                 lent.numbers,
                 lent.nodes,
                 lent.ends,
-            ).into(),
+            )
+            .into(),
             Entry::ToleranceInSpace => cicelybeam_tolerance_in_space(self.coords).into(),
             Entry::ToleranceInPlane => cicelybeam_tolerance_in_plane(self.coords).into(),
             Entry::Sqrt => Answered {
@@ -101,6 +104,7 @@ impl Case<'_> {
             self.coords,
             self.origin,
             self.vector,
+            self.strict,
             self.tol,
             lent.numbers,
             lent.nodes,
@@ -128,11 +132,11 @@ impl Case<'_> {
     }
 }
 
-// What an entry tells: refusal, points or segments, nodes, loops, the four counts of edges, how many crossings were defaulted, and how many
+// What an entry tells: refusal, points or segments, nodes, loops, the five counts of edges, how many crossings were defaulted, and how many
 // comparisons of points were made; and a tolerance or a root.
 #[derive(Clone, Copy, Default)]
 pub struct Answered {
-    pub counts: [u32; 10],
+    pub counts: [u32; 11],
     pub value: f64,
 }
 
@@ -146,6 +150,7 @@ impl From<Section> for Answered {
                 s.loops,
                 s.listed,
                 s.in_loops,
+                s.pinched,
                 s.flat,
                 s.opened,
                 s.defaulted,
@@ -159,7 +164,7 @@ impl From<Section> for Answered {
 impl From<Line> for Answered {
     fn from(l: Line) -> Self {
         Answered {
-            counts: [l.refusal, l.segments, 0, 0, 0, 0, 0, 0, l.defaulted, 0],
+            counts: [l.refusal, l.segments, 0, 0, 0, 0, 0, 0, 0, l.defaulted, 0],
             value: 0.0,
         }
     }
@@ -168,7 +173,7 @@ impl From<Line> for Answered {
 impl From<Tolerance> for Answered {
     fn from(t: Tolerance) -> Self {
         Answered {
-            counts: [t.refusal, 0, 0, 0, 0, 0, 0, 0, 0, 0],
+            counts: [t.refusal, 0, 0, 0, 0, 0, 0, 0, 0, 0, 0],
             value: t.value,
         }
     }

@@ -14,3 +14,4 @@ pub mod Stitching
 pub mod Welded
 pub mod Entries
 pub mod Comparisons
+pub mod Ways

@@ -3,3 +3,4 @@ pub mod Claim
 pub mod Code
 pub mod Entry
 pub mod Comparisons
+pub mod Ways

@@ -5,7 +5,7 @@ use mathlib.Core.List.{[], ◌∷◌}
 use mathlib.Core.Bool.{true, false}
 use lib.IntN.{pos, negsuc}
 use lib.ListN.{get_or}
-use lib.Ieee.{Float, nan, inf, fin, le, neg}
+use lib.Ieee.{Float, nan, inf, fin, le, mul, neg}
 use Rattle.vector.specs.Number.{f0, f1, minus_one, half}
 use Rattle.vector.specs.Vector.{Vector, dot_from, least_aligned_axis, unit}
 use Rattle.vector.specs.Rows.{seg}
@@ -13,7 +13,7 @@ use Rattle.vector.specs.Tolerance.{tolerance}
 use Rattle.clip.specs.Clip.{Cut, inside, plane_section_segments, push_unique, ratio, without_closing}
 use Rattle.weld.specs.Weld.{points_from, welded_points}
 use Rattle.walk.specs.Walk.{straightest}
-use Rattle.stitch.specs.Stitch.{f2, kind_by}
+use Rattle.stitch.specs.Stitch.{f2, kind_by, rule_of}
 use Rattle.stitch.specs.declared.Kind.TheVariants.{Flat}
 
 abbrev pt : Float → Float → Vector
@@ -93,6 +93,6 @@ unfolding straightest
 nan_cosine_passed = refl
 
 -- a closed walk is a loop only if |area| is above tol times tol, and else flat
-nan_area : kind_by (pt nan f0 ∷ pt f1 f0 ∷ pt f0 f1 ∷ []) (record { tol2 = f0 }) true (0 ∷ 1 ∷ 2 ∷ []) ≡ Flat
-unfolding kind_by
+nan_area : kind_by (pt nan f0 ∷ pt f1 f0 ∷ pt f0 f1 ∷ []) (rule_of f0) true (0 ∷ 1 ∷ 2 ∷ []) ≡ Flat
+unfolding kind_by mul
 nan_area = refl

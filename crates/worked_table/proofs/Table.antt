@@ -4,4 +4,4 @@ use Rattle.worked_table.specs.Table.{Worked, answered}
 
 pub worked : Worked
 unfolding answered
-worked = refl
+worked = (refl, refl)

@@ -19,7 +19,9 @@ use Rattle.clip.specs.Clip.{Cut, plane_section_segments}
 use Rattle.clip.specs.Defaulted.{defaulted}
 use Rattle.weld.specs.Weld.{becomes, comparisons_from, edges_from, listed_edges, points_from, welded_points}
 use Rattle.walk.specs.Walk.{Walk, walks, walks_from}
-use Rattle.stitch.specs.Stitch.{Answer, area2_from, f2, signed_area, stitched_within}
+use Rattle.stitch.specs.Stitch.{Answer, area2_from, f2, repeated, signed_area, stitched_within}
+use Rattle.stitch.specs.declared.Strictness.{Strictness}
+use Rattle.stitch.specs.declared.Strictness.TheVariants.{Usual, Strict}
 use Rattle.stitch.specs.Entry.{stitch_alone}
 use Rattle.stitch.specs.Comparisons.{stitch_comparisons}
 use Rattle.cuts.specs.Cuts.{through}
@@ -81,41 +83,55 @@ all_shown xs tol =
     let ps = welded_points t ss in
     map (shown ps) (walks ps (listed_edges t ss))
 
--- by the definitions, in buffers of the sizes that docs/RULES.md gives for 24 face corners, or for the segments
-unfoldable pub answered : Asked → Answered
-unfolding flatten stretches kept space_type read_as are_rows least_aligned_axis unit dot_from tolerance plane_section_segments defaulted mul stitched_within points_from becomes edges_from comparisons_from walks_from area2_from
-answered (faces c) = positions (faces_of Phed c)
-answered (plane t c xs o n) = let r = plane_cut (cell t c xs) (through o n) f0 (record { numbers = 144; nodes = 36; ends = 12 }) in sectioned r (areas r)
-answered (gather t c xs o n) =
+-- by the definitions, in the usual way or the strict one, in buffers of the sizes that docs/RULES.md gives for 24 face corners, or for the
+-- segments; the way counts for plane cuts and stitching alone
+unfoldable pub answered : Strictness → Asked → Answered
+unfolding flatten stretches kept space_type read_as are_rows least_aligned_axis unit dot_from tolerance plane_section_segments defaulted mul stitched_within points_from becomes edges_from comparisons_from walks_from area2_from repeated
+answered way (faces c) = positions (faces_of Phed c)
+answered way (plane t c xs o n) =
+    let r = plane_cut (cell t c xs) (through o n) way f0 (record { numbers = 144; nodes = 36; ends = 12 }) in
+    sectioned r (areas r)
+answered way (gather t c xs o n) =
     let k = cell t c xs in
     let gathered : Cell → Outcome (List Seg) = λ k. gather_cut k (through o n) f0 144 in
     segments (gathered k) (map (λ f. gathered (face_alone k f)) (faces_as (numbered_in_space t) c))
-answered (crossings tol a b) =
+answered way (crossings tol a b) =
     let axis : Cut = record { origin = f0 ∷ f0 ∷ []; normal = f0 ∷ f1 ∷ []; tol = tol } in
     counted (defaulted axis ((f0 ∷ a ∷ []) ∷ (f1 ∷ a ∷ []) ∷ (f2 ∷ b ∷ []) ∷ []))
-answered (stitch xs tol) =
+answered way (stitch xs tol) =
     let s = length xs / 4 in
-    stitched (stitch_alone xs tol (record { numbers = length xs; nodes = s; ends = s / 3 })) (all_shown xs tol)
-answered (compare xs tol) =
+    stitched (stitch_alone xs way tol (record { numbers = length xs; nodes = s; ends = s / 3 })) (all_shown xs tol)
+answered way (compare xs tol) =
     let s = length xs / 4 in
     counted (told_count (stitch_comparisons xs tol (record { numbers = length xs; nodes = s; ends = s / 3 })))
-answered (compare_plane t c xs o n) =
+answered way (compare_plane t c xs o n) =
     counted (told_count (plane_comparisons (cell t c xs) (through o n) f0 (record { numbers = 144; nodes = 36; ends = 12 })))
-answered (tolerance_in xs) = number (tolerance_of 3 xs)
-answered (root x) = number (found (sqrt_of binary64 x))
+answered way (tolerance_in xs) = number (tolerance_of 3 xs)
+answered way (root x) = number (found (sqrt_of binary64 x))
 
 -- ---- the table
 
 pub record Case : Type 0 where
   pub asked : Asked
   pub right : Answered
+  -- and in the strict way
+  pub strict : Answered
 
+-- with one answer in both ways
 abbrev case : Asked → Answered → Case
-case a r = record { asked = a; right = r }
+case a r = record { asked = a; right = r; strict = r }
 
--- a section of points, loops and counts
+abbrev case_by_way : Asked → Answered → Answered → Case
+case_by_way a r s = record { asked = a; right = r; strict = s }
+
+-- a section of points, loops and counts: listed, in loops, pinched, flat and open
+abbrev answer_with : List Vector → List (List ℕ) → ℕ → ℕ → ℕ → ℕ → ℕ → Outcome Answer
+answer_with ps ls a b p c d =
+    found (record { points = ps; loops = ls; counts = record { listed = a; in_loops = b; pinched = p; flat = c; opened = d } })
+
+-- with no pinched walk
 abbrev answer : List Vector → List (List ℕ) → ℕ → ℕ → ℕ → ℕ → Outcome Answer
-answer ps ls a b c d = found (record { points = ps; loops = ls; counts = record { listed = a; in_loops = b; flat = c; opened = d } })
+answer ps ls a b c d = answer_with ps ls a b 0 c d
 
 abbrev pt : Float → Float → Vector
 pt x y = x ∷ y ∷ []
@@ -178,6 +194,9 @@ triangle = O ∷ pt f0 f1 ∷ pt f1 f0 ∷ O ∷ []
 abbrev bow_tie : List Vector
 bow_tie = pt minus_two f1 ∷ O ∷ pt f2 f1 ∷ pt f2 minus_one ∷ O ∷ pt minus_two minus_one ∷ pt minus_two f1 ∷ []
 
+abbrev bow_points : List Vector
+bow_points = pt minus_two f1 ∷ O ∷ pt f2 f1 ∷ pt f2 minus_one ∷ pt minus_two minus_one ∷ []
+
 -- the sides of the unit square, as the faces of the brick give them
 abbrev sides : List Seg
 sides = seg O (pt f1 f0) ∷ seg (pt f1 f1) (pt f0 f1) ∷ seg (pt f1 f0) (pt f1 f1) ∷ seg (pt f0 f1) O ∷ []
@@ -208,9 +227,9 @@ table =
     ∷ case (stitch (along (O ∷ pt f1 f0 ∷ pt f2 f0 ∷ O ∷ [])) f0)
     (stitched (answer (O ∷ pt f1 f0 ∷ pt f2 f0 ∷ []) [] 3 0 3 0) (closed (0 ∷ 1 ∷ 2 ∷ []) f0 ∷ []))
     -- 10
-    ∷ case (stitch (along bow_tie) f0)
-    (stitched (answer (pt minus_two f1 ∷ O ∷ pt f2 f1 ∷ pt f2 minus_one ∷ pt minus_two minus_one ∷ []) [] 6 0 6 0)
-    (closed (0 ∷ 1 ∷ 3 ∷ 2 ∷ 1 ∷ 4 ∷ []) f0 ∷ []))
+    ∷ case_by_way (stitch (along bow_tie) f0)
+    (stitched (answer bow_points [] 6 0 6 0) (closed (0 ∷ 1 ∷ 3 ∷ 2 ∷ 1 ∷ 4 ∷ []) f0 ∷ []))
+    (stitched (answer_with bow_points [] 6 0 6 0 0) (closed (0 ∷ 1 ∷ 3 ∷ 2 ∷ 1 ∷ 4 ∷ []) f0 ∷ []))
     -- 11
     ∷ case (tolerance_in (fin false 3 (pos 0) ∷ fin false 1 (pos 2) ∷ f0 ∷ [])) (number (found (fin false 1 (negsuc 43))))
     -- 12
@@ -236,6 +255,8 @@ table =
     ∷ case (compare_plane 14 brick cube (level half) up) (counted 16)
     ∷ []
 
--- the definitions answer each case as docs/RULES.md does
+-- the definitions answer each case as docs/RULES.md does, in the usual way and in the strict one
 abbrev pub Worked : Type 0
-Worked = map (λ c. answered c.asked) table ≡ map (λ c. c.right) table
+Worked =
+    (map (λ c. answered Usual c.asked) table ≡ map (λ c. c.right) table)
+    × (map (λ c. answered Strict c.asked) table ≡ map (λ c. c.strict) table)
