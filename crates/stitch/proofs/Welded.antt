@@ -95,7 +95,6 @@ module _ (rule : Rule) {ss : List Float} {s : ℕ} {zs₀ : List Float} {n m : �
     points_fit : 2 * n ≤ length zs
     points_fit = omega (arith, w.few_points, lent.for_points)
 
-    -- and there is a mark for each
     pub few_points : length (take (2 * n) zs) / 2 ≤ 768
     few_points = omega (arith, w.few_points, lent.few, length-take-le (2 * n) zs points_fit)
 
