@@ -1,7 +1,7 @@
 -- The loops returned: their sides are edges of the walks, reversed or not, so each is listed and none is used twice. Assumes nothing.
 use mathlib.Core.Path.{◌≡◌, refl, ap, sym, ◌∙◌, subst}
 use mathlib.Core.List.{List, [], ◌∷◌, ◌++◌, map, map-append, reverse, reverse_aux, flatten}
-use mathlib.Core.Bool.{Bool, true, false, false≢true, cond}
+use mathlib.Core.Bool.{Bool, true, false, not, ◌&&◌, cond}
 use Prim.Native.Nat.{ℕ, suc, ◌+◌, ◌*◌, ◌≤◌, ◌<◌, max}
 use native.Mathlib.Nat.{not-suc-le-zero}
 use native.Mathlib.Omega.{arith}
@@ -9,7 +9,8 @@ use lib.Dec.{eqb, ltb}
 use lib.Ieee.{lt}
 use lib.ListN.{length, get_or, length-append, length-reverse_aux}
 use borrow.Author.Tests.{eq-eqb, ltb-false, ltb-true}
-use Rattle.vector.specs.Number.{f0}
+use Rattle.std.proofs.lemmas.Bool.{and_parts, not-true}
+use Rattle.vector.specs.Number.{f0, abs}
 use Rattle.vector.specs.Vector.{Vector}
 use Rattle.weld.specs.declared.Edge.{Edge}
 use Rattle.weld.specs.Weld.{same, between, listed, Simple, Within, Distinct}
@@ -175,22 +176,25 @@ module _ (es : List Edge) (distinct : Distinct es) where
       by_test false q r = omega arith
 
 -- ---- the loops of walks
-pub loop_closed : (ps : List Vector) (rule : Rule) (w : Walk) → is_loop (kind ps rule w) ≡ true → w.closed ≡ true
-unfolding kind_by
-loop_closed ps rule w = by_test w.closed (pinches rule.strictness w.nodes) (lt rule.tol2 _)
-  where
-    by_test : (b p c : Bool) → is_loop (kind_of b p c) ≡ true → b ≡ true
-    by_test true p c e = refl
-    by_test false p c e = absurd (false≢true e)
+loop_of : (b p l : Bool) → is_loop (kind_of b p l) ≡ b && (not p && l)
+loop_of false p l = refl
+loop_of true true l = refl
+loop_of true false true = refl
+loop_of true false false = refl
 
-loop_unpinched : (ps : List Vector) (rule : Rule) (w : Walk) → is_loop (kind ps rule w) ≡ true → pinches rule.strictness w.nodes ≡ false
-unfolding kind_by
-loop_unpinched ps rule w = by_test w.closed (pinches rule.strictness w.nodes) (lt rule.tol2 _)
-  where
-    by_test : (b p c : Bool) → is_loop (kind_of b p c) ≡ true → p ≡ false
-    by_test b false c e = refl
-    by_test true true c e = absurd (false≢true e)
-    by_test false true c e = absurd (false≢true e)
+-- a loop is closed, not pinched, and large
+module _ (ps : List Vector) (rule : Rule) (w : Walk) where
+  pub loop_when : is_loop (kind ps rule w) ≡ w.closed && (not (pinches rule.strictness w.nodes) && lt rule.tol2 (abs (signed_area ps w.nodes)))
+  unfolding kind_by
+  loop_when = loop_of w.closed (pinches rule.strictness w.nodes) (lt rule.tol2 _)
+
+  pub loop_closed : is_loop (kind ps rule w) ≡ true → w.closed ≡ true
+  loop_closed e = (and_parts w.closed _ (sym loop_when ∙ e)).0
+
+  loop_unpinched : is_loop (kind ps rule w) ≡ true → pinches rule.strictness w.nodes ≡ false
+  loop_unpinched e =
+      let p = pinches rule.strictness w.nodes in
+      not-true p (and_parts (not p) _ (and_parts w.closed _ (sym loop_when ∙ e)).1).0
 
 -- a property of every loop from one of every walk that is a loop
 loops_all : (P : List ℕ → Type 0) (ps : List Vector) (rule : Rule) (ws : List Walk)

@@ -7,6 +7,7 @@ use native.Mathlib.Omega.{arith}
 use lib.Dec.{eqb, leb}
 use lib.Ieee.{Float}
 use lib.ListN.{length, length-append}
+use Rattle.std.proofs.Math.Bool.{and-false}
 use Rattle.std.specs.Prelude.{filter}
 use Rattle.rows.specs.Outcome.{Outcome, found, unless}
 use Rattle.vector.specs.Vector.{Vector}
@@ -26,6 +27,7 @@ use Rattle.stitch.specs.declared.Rule.{Rule}
 use Rattle.stitch.specs.declared.Strictness.TheVariants.{Usual, Strict}
 use Rattle.stitch.proofs.Counted.{plus_in_loops, counts_listed, counts_in_walks, counts_usual}
 use Rattle.stitch.proofs.Joined.{Sound, all_sound}
+use Rattle.stitch.proofs.Loops.{loop_when}
 use Rattle.stitch.proofs.Repeated.{once_unrepeated, turned_times, unrepeated_once}
 
 -- ---- of a kind
@@ -74,12 +76,6 @@ same_counts c d a b p f o =
     ∙ ap (λ x. of d.listed d.in_loops d.pinched d.flat x) o
 
 -- by whether a walk is closed, pinched and large
-loop_of : (b p l : Bool) → is_loop (kind_of b p l) ≡ b && (not p && l)
-loop_of false p l = refl
-loop_of true true l = refl
-loop_of true false true = refl
-loop_of true false false = refl
-
 pinched_of : (b p l : Bool) → is_pinched (kind_of b p l) ≡ b && p
 pinched_of false p l = refl
 pinched_of true true l = refl
@@ -141,10 +137,6 @@ module _ (ps : List Vector) (rule : Rule) where
   abbrev wide : Walk → Bool
   wide w = large rule.tol2 ps w
 
-  loop_when : (w : Walk) → is_loop (kind ps rule w) ≡ w.closed && (not (pinched w) && wide w)
-  unfolding kind_by
-  loop_when w = loop_of w.closed (pinched w) (wide w)
-
   pinched_when : (w : Walk) → is_pinched (kind ps rule w) ≡ w.closed && pinched w
   unfolding kind_by
   pinched_when w = pinched_of w.closed (pinched w) (wide w)
@@ -158,7 +150,7 @@ module _ (ps : List Vector) (rule : Rule) where
   open_when w = open_of w.closed (pinched w) (wide w)
 
   returned_when : (ws : List Walk) → loops ps rule ws ≡ returned ps (λ w. w.closed && (not (pinched w) && wide w)) ws
-  returned_when ws = loops_by ws ∙ ap (map (λ w. turned ps w.nodes)) (filter_alike _ _ loop_when ws)
+  returned_when ws = loops_by ws ∙ ap (map (λ w. turned ps w.nodes)) (filter_alike _ _ (loop_when ps rule) ws)
 
   count_when : (f g : Walk → Bool) → ((w : Walk) → f w ≡ g w) → (ws : List Walk) → 0 + edges_of f ws ≡ edges_of g ws
   count_when f g e ws = let q = ap (λ l. length (edges_walked l)) (filter_alike f g e ws) in omega arith
@@ -173,7 +165,7 @@ module _ (ps : List Vector) (rule : Rule) where
       }
   counts_when n ws =
       let listed = counts_listed ps rule n ws in
-      let loop = count_by (λ c. c.in_loops) is_loop plus_in_loops (unwalked n) ws ∙ count_when _ _ loop_when ws in
+      let loop = count_by (λ c. c.in_loops) is_loop plus_in_loops (unwalked n) ws ∙ count_when _ _ (loop_when ps rule) ws in
       let pinch = count_by (λ c. c.pinched) is_pinched plus_pinched (unwalked n) ws ∙ count_when _ _ pinched_when ws in
       let flat = count_by (λ c. c.flat) is_flat plus_flat (unwalked n) ws ∙ count_when _ _ flat_when ws in
       let unclosed = count_by (λ c. c.opened) is_open plus_open (unwalked n) ws ∙ count_when _ _ open_when ws in
@@ -184,10 +176,6 @@ no_edges : (f : Walk → Bool) → ((w : Walk) → f w ≡ false) → (ws : List
 no_edges f e [] = refl
 no_edges f e (w ∷ ws) = rw (e w) (no_edges f e ws)
 
-never : (b : Bool) → b && false ≡ false
-never true = refl
-never false = refl
-
 pub usual_answer : UsualAnswer
 unfolding stitched_within
 usual_answer tol ss =
@@ -195,7 +183,7 @@ usual_answer tol ss =
     let ps = welded_points rule.tol2 ss in
     let es = listed_edges rule.tol2 ss in
     let ws = walks ps es in
-    rw (returned_when ps rule ws, counts_when ps rule (length es) ws, no_edges (λ w. w.closed && false) (λ w. never w.closed) ws) refl
+    rw (returned_when ps rule ws, counts_when ps rule (length es) ws, no_edges (λ w. w.closed && false) (λ w. and-false w.closed) ws) refl
 
 pub strict_answer : StrictAnswer
 unfolding stitched_within
