@@ -35,9 +35,9 @@ pub record Roomy (m : ℕ) (numbers : List Float) (nodes ends : List ℕ) : Type
   pub for_ends : m / 2 ≤ length ends
 
 -- the section of polygons by a plane is given, and its crossings by default and comparisons of points are counted
-pub record SectionGiven (way : Strictness) (f : Plane) (tol : Float) (ps : List Polygon) (r : CellSection) (b b' : Buffers) : Type 0 where
+pub record SectionGiven (strictness : Strictness) (f : Plane) (tol : Float) (ps : List Polygon) (r : CellSection) (b b' : Buffers) : Type 0 where
   pub stitched
-      : AnswerGiven (section_by way f tol ps) r.stitched b.numbers b'.numbers b.nodes b'.nodes b.ends b'.ends
+      : AnswerGiven (section_by strictness f tol ps) r.stitched b.numbers b'.numbers b.nodes b'.nodes b.ends b'.ends
   pub counted : r.defaulted ≡ defaulted_by f tol ps
   pub compared : ComparisonsOf (rule_of tol).tol2 (segments_on f tol ps) r.comparisons
 

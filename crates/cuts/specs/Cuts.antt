@@ -56,7 +56,7 @@ segments_on f tol ps = cell_segments (cut_by f tol) f ps
 
 -- the section of polygons by a plane, in the usual way or the strict one
 abbrev pub section_by : Strictness → Plane → Float → List Polygon → Answer
-section_by way f tol ps = stitched_by way tol (segments_on f tol ps)
+section_by strictness f tol ps = stitched_by strictness tol (segments_on f tol ps)
 
 -- and in the usual way, as a line cut has it
 abbrev pub section_of : Plane → Float → List Polygon → Answer

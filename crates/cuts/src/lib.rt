@@ -177,7 +177,14 @@ pub fn section_within<const SEGMENTS: usize>(
     let mut segments = [0.0; SEGMENTS];
     let found = gather_cell(cell, cutting, &mut segments);
     let segments = &segments[..4 * found.segments];
-    let stitching = stitch::stitch_segments(segments, strictness, cutting.tol, numbers, nodes, ends);
+    let stitching = stitch::stitch_segments(
+        segments,
+        strictness,
+        cutting.tol,
+        numbers,
+        nodes,
+        ends,
+    );
     CellSection {
         stitched: stitching.stitched,
         defaulted: found.defaulted,

@@ -85,13 +85,13 @@ module _ (tol : Float) (l : Lengths) (ss : List Seg) (w : All (Wide 2) ss) (few 
   read_flat : segs 2 n (flat ss) ≡ ss
   read_flat = ap (λ i. segs 2 i (flat ss)) as_many ∙ segs_flat 2 ss w
 
-  stitch_flat : (way : Strictness) → stitch_alone (flat ss) way tol l
-      ≡ unless 7 (room (4 * length ss) (length ss) (length ss / 3) l) (found (stitched_by way tol ss))
-  stitch_flat way =
+  stitch_flat : (strictness : Strictness) → stitch_alone (flat ss) strictness tol l
+      ≡ unless 7 (room (4 * length ss) (length ss) (length ss / 3) l) (found (stitched_by strictness tol ss))
+  stitch_flat strictness =
       test_passed 8 (eqb (length (flat ss) % 4) 0 && leb n 384) _
       (simp (eq-eqb (length (flat ss) % 4) 0 (omega (arith, flat_length 2 ss w)), le-leb n 384 (omega (arith, as_many))))
-      ∙ ap (λ i. unless 7 (room (4 * i) i (i / 3) l) (found (stitched_by way tol (segs 2 n (flat ss))))) as_many
-      ∙ ap (λ k. unless 7 (room (4 * length ss) (length ss) (length ss / 3) l) (found (stitched_by way tol k))) read_flat
+      ∙ ap (λ i. unless 7 (room (4 * i) i (i / 3) l) (found (stitched_by strictness tol (segs 2 n (flat ss))))) as_many
+      ∙ ap (λ k. unless 7 (room (4 * length ss) (length ss) (length ss / 3) l) (found (stitched_by strictness tol k))) read_flat
 
   compare_flat : stitch_comparisons (flat ss) tol l
       ≡ unless 7 (room (4 * length ss) (length ss) (length ss / 3) l) (found (comparisons (rule_of tol).tol2 ss))
@@ -144,8 +144,9 @@ module _ {A : Type 0} (tol : Float) (l : Lengths) (made : List Seg → A) (alone
   by_cell (found ps) few (found f) = on_plane ps (few ps refl) f
 
 pub plane_by_gathering : PlaneByGathering
-plane_by_gathering k g way tol l =
-    by_cell tol l (stitched_by way tol) (λ xs. stitch_alone xs way tol l) (λ ss w few. stitch_flat tol l ss w few way) (space_cell k) (found_few k) (place_in Normal g)
+plane_by_gathering k g strictness tol l =
+    by_cell tol l (stitched_by strictness tol) (λ xs. stitch_alone xs strictness tol l)
+    (λ ss w few. stitch_flat tol l ss w few strictness) (space_cell k) (found_few k) (place_in Normal g)
 
 pub plane_compared_by_gathering : PlaneComparedByGathering
 plane_compared_by_gathering k g tol l =
@@ -163,26 +164,26 @@ module _ (k : Cell) (g : Through) (tol : Float) (a : ℕ) (ss : List Seg) (e : g
       subst (All (Wide 2)) (sym d.segments_are) (wide (cut_by d.frame tol) d.frame d.polygons)
 
 pub stitch_gathered : StitchGathered
-stitch_gathered k g tol a ss e way l =
-    stitch_flat tol l ss (gathered_wide k g tol a ss e) (gathered k g tol a ss e).few way
+stitch_gathered k g tol a ss e strictness l =
+    stitch_flat tol l ss (gathered_wide k g tol a ss e) (gathered k g tol a ss e).few strictness
 
 -- ---- what the callers read
 
 -- of a cell whose segments are ss
-module _ (way : Strictness) (tol : Float) (a : ℕ) (ss : List Seg) where
+module _ (strictness : Strictness) (tol : Float) (a : ℕ) (ss : List Seg) where
   gathered_is : (b : Bool) (ks : List Seg) → unless 7 b (found ks) ≡ found ss → ks ≡ ss
   gathered_is true ks e = cc
   gathered_is false ks e = absurd (never_both e)
 
   -- the plane cut gives their stitching, if it gives anything
   plane_only : (l : Lengths) (o : Outcome (List Polygon)) (p : Outcome Plane) → cut_cell o p (gather_in tol a) ≡ found ss
-      → Sound 1 7 (λ x. x ≡ stitched_by way tol ss) (cut_cell o p (section_in way tol l))
+      → Sound 1 7 (λ x. x ≡ stitched_by strictness tol ss) (cut_cell o p (section_in strictness tol l))
   plane_only l (refused j) p e = absurd (never_both e)
   plane_only l (found ps) (refused j) e = absurd (never_both e)
   plane_only l (found ps) (found f) e =
       let m = length (flatten ps) in
-      sound_unless 1 7 (λ x. x ≡ stitched_by way tol ss) 7 (room (6 * m) (3 * m / 2) (m / 2) l) (found (section_by way f tol ps)) (omega arith)
-      (omega arith) (λ _. ap (stitched_by way tol) (gathered_is (leb (6 * m) a) (segments_on f tol ps) e))
+      sound_unless 1 7 (λ x. x ≡ stitched_by strictness tol ss) 7 (room (6 * m) (3 * m / 2) (m / 2) l) (found (section_by strictness f tol ps)) (omega arith)
+      (omega arith) (λ _. ap (stitched_by strictness tol) (gathered_is (leb (6 * m) a) (segments_on f tol ps) e))
 
 -- segments that an outcome gave, as many as were told
 record Given (o : Outcome (List Seg)) (r : ToldLine) : Type 0 where
@@ -206,7 +207,7 @@ not_refused (refused j) P r h e z = absurd (omega (arith, h.0, ap (λ x. x.refus
 not_refused (found ss) P r h e z = record { segments = ss; gave = refl; many = ap (λ x. x.segments) e }
 
 pub read_alike : ReadAlike
-read_alike k g way tol r xs xs' s t b b' c c' h z hs zs ht zt =
+read_alike k g strictness tol r xs xs' s t b b' c c' h z hs zs ht zt =
     let a = length xs in
     let o = gather_cut k g tol a in
     let d = not_refused o (Gathered k g tol) r (gather_sound k g tol a) h.told_is z in
@@ -216,13 +217,13 @@ read_alike k g way tol r xs xs' s t b b' c c' h z hs zs ht zt =
     let handed : take (4 * r.segments) xs' ≡ flat ss
     = ap (take (4 * r.segments)) (h.numbers_are ∙ ap (λ x. over (segments_of x) xs) d.gave)
     ∙ take_at (flat ss) (drop (length (flat ss)) xs) (4 * r.segments) n in
-    let x = stitched_by way tol ss in
+    let x = stitched_by strictness tol ss in
     let f = room (4 * length ss) (length ss) (length ss / 3) (lengths b) in
     let p =
     only 7 7 (unless 7 f (found x)) x
     (sound_unless 7 7 (λ y. y ≡ x) 7 f (found x) (omega arith) (omega arith) (λ _. refl)) (omega arith) s b b'
-    (subst (λ o. Gave o s b b') (ap (λ l. stitch_alone l way tol (lengths b)) handed ∙ stitch_gathered k g tol a ss d.gave way (lengths b)) hs) zs in
+    (subst (λ o. Gave o s b b') (ap (λ l. stitch_alone l strictness tol (lengths b)) handed ∙ stitch_gathered k g tol a ss d.gave strictness (lengths b)) hs) zs in
     let q =
-    only 1 7 (plane_cut k g way tol (lengths c)) x (plane_only way tol a ss (lengths c) (space_cell k) (place_in Normal g) d.gave) (omega arith) t c c' ht
+    only 1 7 (plane_cut k g strictness tol (lengths c)) x (plane_only strictness tol a ss (lengths c) (space_cell k) (place_in Normal g) d.gave) (omega arith) t c c' ht
     zt in
     (p.0 ∙ sym q.0, p.1 ∙ sym q.1)

@@ -53,26 +53,26 @@ GatherBounded =
 -- for.
 abbrev pub StitchGathered : Type 0
 StitchGathered =
-    (k : Cell) (g : Through) (tol : Float) (a : ℕ) (ss : List Seg) → gather_cut k g tol a ≡ found ss → (way : Strictness) (l : Lengths)
+    (k : Cell) (g : Through) (tol : Float) (a : ℕ) (ss : List Seg) → gather_cut k g tol a ≡ found ss → (strictness : Strictness) (l : Lengths)
     → let s = length ss in
-    stitch_alone (flat ss) way tol l ≡ unless 7 (room (4 * s) s (s / 3) l) (found (stitched_by way tol ss))
+    stitch_alone (flat ss) strictness tol l ≡ unless 7 (room (4 * s) s (s / 3) l) (found (stitched_by strictness tol ss))
 
 -- For every input, refusals included: the plane cut gathers, and where its buffers hold what m face corners may need, it gives what
 -- stitching alone gives of the numbers gathered, in the same buffers.
 abbrev pub PlaneByGathering : Type 0
 PlaneByGathering =
-    (k : Cell) (g : Through) (way : Strictness) (tol : Float) (l : Lengths) → let m = corners_of (space_cell k) in
-    plane_cut k g way tol l
-    ≡ and_then (gather_cut k g tol l.numbers) (λ ss. unless 7 (room (6 * m) (3 * m / 2) (m / 2) l) (stitch_alone (flat ss) way tol l))
+    (k : Cell) (g : Through) (strictness : Strictness) (tol : Float) (l : Lengths) → let m = corners_of (space_cell k) in
+    plane_cut k g strictness tol l
+    ≡ and_then (gather_cut k g tol l.numbers) (λ ss. unless 7 (room (6 * m) (3 * m / 2) (m / 2) l) (stitch_alone (flat ss) strictness tol l))
 
 -- A caller who gathers, and hands the numbers written to stitching alone, reads what the plane cut's caller reads, whatever the buffers of
 -- each of the three calls, if none is refused.
 abbrev pub ReadAlike : Type 0
 ReadAlike =
-    (k : Cell) (g : Through) (way : Strictness) (tol : Float) (r : ToldLine) (xs xs' : List Float) (s t : Told) (b b' c c' : Buffers)
+    (k : Cell) (g : Through) (strictness : Strictness) (tol : Float) (r : ToldLine) (xs xs' : List Float) (s t : Told) (b b' c c' : Buffers)
     → GaveLine (gather_cut k g tol (length xs)) r xs xs' → r.refusal ≡ 0
-    → Gave (stitch_alone (take (4 * r.segments) xs') way tol (lengths b)) s b b' → s.refusal ≡ 0
-    → Gave (plane_cut k g way tol (lengths c)) t c c' → t.refusal ≡ 0
+    → Gave (stitch_alone (take (4 * r.segments) xs') strictness tol (lengths b)) s b b' → s.refusal ≡ 0
+    → Gave (plane_cut k g strictness tol (lengths c)) t c c' → t.refusal ≡ 0
     → (s ≡ t) × (answer_read s b' ≡ answer_read t c')
 
 -- ---- only the corners matter

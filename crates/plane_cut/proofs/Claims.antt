@@ -39,14 +39,14 @@ segments_bounded k t ps e r f tol =
 -- ---- only the corners matter
 
 pub alike_by_plane : AlikeByPlane
-alike_by_plane k k' ps ps' r r' z g way tol l =
-    ap (λ c. cut_cell c (place_in Normal g) (section_in way tol l)) (alike_in_space k k' ps ps' r r' z)
+alike_by_plane k k' ps ps' r r' z g strictness tol l =
+    ap (λ c. cut_cell c (place_in Normal g) (section_in strictness tol l)) (alike_in_space k k' ps ps' r r' z)
 
 -- ---- what the cut can answer, and what the caller reads
 
 pub plane_sound : PlaneSound
-plane_sound k g way tol l =
-    made_sound (PlaneSection k g way tol) k Normal g (λ m. room (6 * m) (3 * m / 2) (m / 2) l) (λ ps f. section_by way f tol ps)
+plane_sound k g strictness tol l =
+    made_sound (PlaneSection k g strictness tol) k Normal g (λ m. room (6 * m) (3 * m / 2) (m / 2) l) (λ ps f. section_by strictness f tol ps)
     (λ ps r f e.
     record {
       polygons = ps;
@@ -54,14 +54,14 @@ plane_sound k g way tol l =
       frame = f;
       frame_is = e;
       few = segments_few k ps r f tol;
-      claim = claim (rule_by way tol) (segments_on f tol ps);
+      claim = claim (rule_by strictness tol) (segments_on f tol ps);
     })
 
 pub plane_claim : PlaneClaim
-plane_claim k g way tol r b b' h z =
-    of_answer (PlaneSection k g way tol) 1 7 _ r b b' (omega arith) (plane_sound k g way tol (lengths b)) h z
+plane_claim k g strictness tol r b b' h z =
+    of_answer (PlaneSection k g strictness tol) 1 7 _ r b b' (omega arith) (plane_sound k g strictness tol (lengths b)) h z
 
 pub plane_small : PlaneSmall
-plane_small k g way tol l =
-    small_told (PlaneSection k g way tol) 1 7 (plane_cut k g way tol l) (omega arith) (plane_sound k g way tol l)
+plane_small k g strictness tol l =
+    small_told (PlaneSection k g strictness tol) 1 7 (plane_cut k g strictness tol l) (omega arith) (plane_sound k g strictness tol l)
     (λ x s. small_answer _ _ x s.few s.claim)

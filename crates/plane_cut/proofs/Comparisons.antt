@@ -16,8 +16,8 @@ use Rattle.cuts.proofs.Sizes.{segments_few}
 use Rattle.plane_cut.specs.Comparisons.{AlikeCompared, FewCompared, PlaneCompared, PlaneComparisons, RefusedAlike, comparisons_in, plane_comparisons}
 
 pub comparisons_refused : RefusedAlike
-comparisons_refused k g way tol l j e =
-    refused_alike (space_cell k) (place_in Normal g) (λ m. room (6 * m) (3 * m / 2) (m / 2) l) (λ ps f. section_by way f tol ps)
+comparisons_refused k g strictness tol l j e =
+    refused_alike (space_cell k) (place_in Normal g) (λ m. room (6 * m) (3 * m / 2) (m / 2) l) (λ ps f. section_by strictness f tol ps)
     (λ ps f. comparisons_by f tol ps) e
 
 pub plane_compared : PlaneCompared

@@ -25,7 +25,7 @@ plane_comparisons k g tol l = cut_cell (space_cell k) (place_in Normal g) (compa
 -- It is refused where the plane cut is, with the same number, so that 0 is told then. The way has no part in either.
 abbrev pub RefusedAlike : Type 0
 RefusedAlike =
-    (k : Cell) (g : Through) (way : Strictness) (tol : Float) (l : Lengths) (j : ℕ) → plane_cut k g way tol l ≡ refused j
+    (k : Cell) (g : Through) (strictness : Strictness) (tol : Float) (l : Lengths) (j : ℕ) → plane_cut k g strictness tol l ≡ refused j
     → plane_comparisons k g tol l ≡ refused j
 
 -- n is the number of comparisons of points that the section of a cell by a plane takes: the cell was read, the plane was placed, and n is

@@ -19,11 +19,11 @@ use Rattle.cuts.specs.declared.Way.TheVariants.{Normal}
 
 -- 7: buffers of these lengths hold the numbers, nodes and ends of a section of m face corners
 abbrev pub section_in : Strictness → Float → Lengths → ℕ → List Polygon → Plane → Outcome Answer
-section_in way tol l m ps f = unless 7 (room (6 * m) (3 * m / 2) (m / 2) l) (found (section_by way f tol ps))
+section_in strictness tol l m ps f = unless 7 (room (6 * m) (3 * m / 2) (m / 2) l) (found (section_by strictness f tol ps))
 
 -- in the usual way or the strict one
 abbrev pub plane_cut : Cell → Through → Strictness → Float → Lengths → Outcome Answer
-plane_cut k g way tol l = cut_cell (space_cell k) (place_in Normal g) (section_in way tol l)
+plane_cut k g strictness tol l = cut_cell (space_cell k) (place_in Normal g) (section_in strictness tol l)
 
 -- ---- how many segments
 
@@ -46,31 +46,32 @@ SegmentsBounded =
 abbrev pub AlikeByPlane : Type 0
 AlikeByPlane =
     (k k' : Cell) (ps ps' : List Polygon) → space_cell k ≡ found ps → space_cell k' ≡ found ps' → SameInSpace k k'
-    → (g : Through) (way : Strictness) (tol : Float) (l : Lengths) → plane_cut k g way tol l ≡ plane_cut k' g way tol l
+    → (g : Through) (strictness : Strictness) (tol : Float) (l : Lengths) → plane_cut k g strictness tol l ≡ plane_cut k' g strictness tol l
 
 -- ---- the claim about stitching, of what the cut gave
 
 -- The answer a is the section of a cell by a plane: the cell was read, the plane was placed, and the claim holds of the
 -- segments of its faces, at most 384, and of a.
-pub record PlaneSection (k : Cell) (g : Through) (way : Strictness) (tol : Float) (a : Answer) : Type 0 where
+pub record PlaneSection (k : Cell) (g : Through) (strictness : Strictness) (tol : Float) (a : Answer) : Type 0 where
   pub polygons : List Polygon
   pub read_is : space_cell k ≡ found polygons
   pub frame : Plane
   pub frame_is : plane_of g.origin g.vector ≡ Some frame
   pub few : length (segments_on frame tol polygons) ≤ 384
-  pub claim : Claim (rule_by way tol) (segments_on frame tol polygons) a
+  pub claim : Claim (rule_by strictness tol) (segments_on frame tol polygons) a
 
 -- Whatever is handed over, the plane cut answers with a refusal from 1 to 7 or with such a section.
 abbrev pub PlaneSound : Type 0
 PlaneSound =
-    (k : Cell) (g : Through) (way : Strictness) (tol : Float) (l : Lengths) → Sound 1 7 (PlaneSection k g way tol) (plane_cut k g way tol l)
+    (k : Cell) (g : Through) (strictness : Strictness) (tol : Float) (l : Lengths)
+    → Sound 1 7 (PlaneSection k g strictness tol) (plane_cut k g strictness tol l)
 
 -- And so it is with what the caller reads: where no refusal is told, the answer in the buffers is such a section.
 abbrev pub PlaneClaim : Type 0
 PlaneClaim =
-    (k : Cell) (g : Through) (way : Strictness) (tol : Float) (r : Told) (b b' : Buffers) → Gave (plane_cut k g way tol (lengths b)) r b b'
-    → r.refusal ≡ 0 → PlaneSection k g way tol (answer_read r b')
+    (k : Cell) (g : Through) (strictness : Strictness) (tol : Float) (r : Told) (b b' : Buffers)
+    → Gave (plane_cut k g strictness tol (lengths b)) r b b' → r.refusal ≡ 0 → PlaneSection k g strictness tol (answer_read r b')
 
 -- no number that is told is above 768
 abbrev pub PlaneSmall : Type 0
-PlaneSmall = (k : Cell) (g : Through) (way : Strictness) (tol : Float) (l : Lengths) → Small (told (plane_cut k g way tol l))
+PlaneSmall = (k : Cell) (g : Through) (strictness : Strictness) (tol : Float) (l : Lengths) → Small (told (plane_cut k g strictness tol l))

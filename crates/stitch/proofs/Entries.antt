@@ -45,24 +45,24 @@ fits x y z l e =
     (leb→le x l.numbers (and_l a (b && c) t), leb→le y l.nodes (and_l b c u), leb→le z l.ends (and_r b c u))
 
 -- 8, and then 7
-module _ (xs : List Float) (way : Strictness) (tol : Float) (l : Lengths) where
+module _ (xs : List Float) (strictness : Strictness) (tol : Float) (l : Lengths) where
   abbrev s : ℕ
   s = length xs / 4
 
-  pub unsuited : (length xs % 4 ≡ 0 → ⊥) ⊎ ((length xs % 4 ≡ 0) × (384 < s)) → stitch_alone xs way tol l ≡ refused 8
+  pub unsuited : (length xs % 4 ≡ 0 → ⊥) ⊎ ((length xs % 4 ≡ 0) × (384 < s)) → stitch_alone xs strictness tol l ≡ refused 8
   unsuited (inl h) = simp (ne_eqb _ _ h)
   unsuited (inr h) = simp (eq-eqb _ _ h.0, lt-leb _ _ h.1)
 
-  pub crowded : length xs % 4 ≡ 0 → s ≤ 384 → room (4 * s) s (s / 3) l ≡ false → stitch_alone xs way tol l ≡ refused 7
+  pub crowded : length xs % 4 ≡ 0 → s ≤ 384 → room (4 * s) s (s / 3) l ≡ false → stitch_alone xs strictness tol l ≡ refused 7
   crowded e h r = simp (eq-eqb _ _ e, le-leb _ _ h, r)
 
 -- ---- what an entry can answer, and what the caller reads
 
 pub stitch_sound : StitchSound
-stitch_sound xs way tol l =
+stitch_sound xs strictness tol l =
     let s = length xs / 4 in
-    let P = StitchSection xs way tol in
-    let answer = found (stitched_by way tol (segs 2 s xs)) in
+    let P = StitchSection xs strictness tol in
+    let answer = found (stitched_by strictness tol (segs 2 s xs)) in
     sound_unless 7 8 P 8 (eqb (length xs % 4) 0 && leb s 384) (unless 7 (room (4 * s) s (s / 3) l) answer) (omega arith) (omega arith)
     (λ e.
     let t : T (eqb (length xs % 4) 0 && leb s 384) = subst T (sym e) tt in
@@ -71,7 +71,7 @@ stitch_sound xs way tol l =
     record {
       fours = eqb→eq (length xs % 4) 0 (and_l (eqb (length xs % 4) 0) (leb s 384) t);
       few = leb→le s 384 (and_r (eqb (length xs % 4) 0) (leb s 384) t);
-      claim = claim (rule_by way tol) (segs 2 s xs);
+      claim = claim (rule_by strictness tol) (segs 2 s xs);
     }))
 
 -- a section that was told, read back, is the answer
@@ -98,8 +98,8 @@ of_answer P lo hi (refused k) r b b' l h g z =
 of_answer P lo hi (found a) r b b' l h g z = subst P (sym (answer_read_lem a r b b' g)) h
 
 pub stitch_claim : StitchClaim
-stitch_claim xs way tol r b b' g z =
-    of_answer (StitchSection xs way tol) 7 8 _ r b b' (omega arith) (stitch_sound xs way tol (lengths b)) g z
+stitch_claim xs strictness tol r b b' g z =
+    of_answer (StitchSection xs strictness tol) 7 8 _ r b b' (omega arith) (stitch_sound xs strictness tol (lengths b)) g z
 
 -- ---- how much a section holds
 
@@ -136,6 +136,6 @@ small_told P lo hi (refused k) l h f =
 small_told P lo hi (found a) l h f = f a h
 
 pub stitch_small : StitchSmall
-stitch_small xs way tol l =
-    small_told (StitchSection xs way tol) 7 8 (stitch_alone xs way tol l) (omega arith) (stitch_sound xs way tol l)
+stitch_small xs strictness tol l =
+    small_told (StitchSection xs strictness tol) 7 8 (stitch_alone xs strictness tol l) (omega arith) (stitch_sound xs strictness tol l)
     (λ x s. small_answer _ _ x (let f = s.few in omega (arith, segs_length 2 (length xs / 4) xs)) s.claim)

@@ -100,19 +100,21 @@ strictness_of n = cond (eqb n 0) Usual Strict
 
 -- 8 is tested before 7
 abbrev pub stitch_alone : List Float → Strictness → Float → Lengths → Outcome Answer
-stitch_alone xs way tol l =
+stitch_alone xs strictness tol l =
     let s = length xs / 4 in
-    unless 8 (eqb (length xs % 4) 0 && leb s 384) (unless 7 (room (4 * s) s (s / 3) l) (found (stitched_by way tol (segs 2 s xs))))
+    unless 8 (eqb (length xs % 4) 0 && leb s 384) (unless 7 (room (4 * s) s (s / 3) l) (found (stitched_by strictness tol (segs 2 s xs))))
 
 -- The answer a is the stitching of the segments that were handed over, and the claim holds of it.
-pub record StitchSection (xs : List Float) (way : Strictness) (tol : Float) (a : Answer) : Type 0 where
+pub record StitchSection (xs : List Float) (strictness : Strictness) (tol : Float) (a : Answer) : Type 0 where
   pub fours : length xs % 4 ≡ 0
   pub few : length xs / 4 ≤ 384
-  pub claim : Claim (rule_by way tol) (segs 2 (length xs / 4) xs) a
+  pub claim : Claim (rule_by strictness tol) (segs 2 (length xs / 4) xs) a
 
 -- Stitching alone answers with refusal 7 or 8, or with such a section.
 abbrev pub StitchSound : Type 0
-StitchSound = (xs : List Float) (way : Strictness) (tol : Float) (l : Lengths) → Sound 7 8 (StitchSection xs way tol) (stitch_alone xs way tol l)
+StitchSound =
+    (xs : List Float) (strictness : Strictness) (tol : Float) (l : Lengths)
+    → Sound 7 8 (StitchSection xs strictness tol) (stitch_alone xs strictness tol l)
 
 -- the answer that a caller reads from what was told and from the buffers
 abbrev pub answer_read : Told → Buffers → Answer
@@ -121,8 +123,8 @@ answer_read r b = answer_in r.answer b.numbers b.nodes b.ends
 -- And so it is with what the caller reads: where no refusal is told, the answer in the buffers is such a section.
 abbrev pub StitchClaim : Type 0
 StitchClaim =
-    (xs : List Float) (way : Strictness) (tol : Float) (r : Told) (b b' : Buffers) → Gave (stitch_alone xs way tol (lengths b)) r b b'
-    → r.refusal ≡ 0 → StitchSection xs way tol (answer_read r b')
+    (xs : List Float) (strictness : Strictness) (tol : Float) (r : Told) (b b' : Buffers) → Gave (stitch_alone xs strictness tol (lengths b)) r b b'
+    → r.refusal ≡ 0 → StitchSection xs strictness tol (answer_read r b')
 
 -- ---- how much a section holds
 
@@ -136,4 +138,4 @@ pub record Small (r : Told) : Type 0 where
   pub adds_up : r.answer.counts.listed ≡ in_walks r.answer.counts
 
 abbrev pub StitchSmall : Type 0
-StitchSmall = (xs : List Float) (way : Strictness) (tol : Float) (l : Lengths) → Small (told (stitch_alone xs way tol l))
+StitchSmall = (xs : List Float) (strictness : Strictness) (tol : Float) (l : Lengths) → Small (told (stitch_alone xs strictness tol l))

@@ -139,11 +139,11 @@ stitched_within rule ss =
 
 -- the rule of a way and a tolerance, which is squared
 abbrev pub rule_by : Strictness → Float → Rule
-rule_by way tol = record { tol2 = mul binary64 tol tol; strictness = way }
+rule_by strictness tol = record { tol2 = mul binary64 tol tol; strictness = strictness }
 
 -- `stitch_segments`, and in either way
 abbrev pub stitched_by : Strictness → Float → List Seg → Answer
-stitched_by way tol ss = stitched_within (rule_by way tol) ss
+stitched_by strictness tol ss = stitched_within (rule_by strictness tol) ss
 
 -- the usual way
 abbrev pub rule_of : Float → Rule

@@ -88,7 +88,7 @@ pub enum Strictness {
 
 // By a yes or no, as C hands it over: 0 is no.
 impl From<u8> for Strictness {
-    ghost from_gives = { λ strict way. way ≡ strictness_of strict };
+    ghost from_gives = { λ strict strictness. strictness ≡ strictness_of strict };
 
     fn from(strict: u8) -> Self {
         match strict {

@@ -62,11 +62,11 @@ stitched_in r =
     }
 
 -- the answer where the lengths fit
-pub record Stitching (segments : List Float) (way : Strictness) (tol : Float) (r : Answer) (points points' : List Float) (nodes nodes' ends ends' : List ℕ)
-    : Type 0 where
+pub record Stitching (segments : List Float) (strictness : Strictness) (tol : Float) (r : Answer) (points points' : List Float)
+    (nodes nodes' ends ends' : List ℕ) : Type 0 where
   pub said : r.fitted ≡ 1
-  pub stitches : Stitches (rule_by way tol) (segs 2 (length segments / 4) segments) (stitched_in r) points points' nodes nodes' ends ends'
-  pub compared : ComparisonsOf (rule_by way tol).tol2 (segs 2 (length segments / 4) segments) r.comparisons
+  pub stitches : Stitches (rule_by strictness tol) (segs 2 (length segments / 4) segments) (stitched_in r) points points' nodes nodes' ends ends'
+  pub compared : ComparisonsOf (rule_by strictness tol).tol2 (segs 2 (length segments / 4) segments) r.comparisons
 
 -- the answer where they do not: nothing is told, and the buffers are as they were
 pub record Unstitched (r : Answer) (points points' : List Float) (nodes nodes' ends ends' : List ℕ) : Type 0 where

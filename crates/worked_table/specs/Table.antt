@@ -87,27 +87,27 @@ all_shown xs tol =
 -- segments; the way counts for plane cuts and stitching alone
 unfoldable pub answered : Strictness → Asked → Answered
 unfolding flatten stretches kept space_type read_as are_rows least_aligned_axis unit dot_from tolerance plane_section_segments defaulted mul stitched_within points_from becomes edges_from comparisons_from walks_from area2_from repeated
-answered way (faces c) = positions (faces_of Phed c)
-answered way (plane t c xs o n) =
-    let r = plane_cut (cell t c xs) (through o n) way f0 (record { numbers = 144; nodes = 36; ends = 12 }) in
+answered strictness (faces c) = positions (faces_of Phed c)
+answered strictness (plane t c xs o n) =
+    let r = plane_cut (cell t c xs) (through o n) strictness f0 (record { numbers = 144; nodes = 36; ends = 12 }) in
     sectioned r (areas r)
-answered way (gather t c xs o n) =
+answered strictness (gather t c xs o n) =
     let k = cell t c xs in
     let gathered : Cell → Outcome (List Seg) = λ k. gather_cut k (through o n) f0 144 in
     segments (gathered k) (map (λ f. gathered (face_alone k f)) (faces_as (numbered_in_space t) c))
-answered way (crossings tol a b) =
+answered strictness (crossings tol a b) =
     let axis : Cut = record { origin = f0 ∷ f0 ∷ []; normal = f0 ∷ f1 ∷ []; tol = tol } in
     counted (defaulted axis ((f0 ∷ a ∷ []) ∷ (f1 ∷ a ∷ []) ∷ (f2 ∷ b ∷ []) ∷ []))
-answered way (stitch xs tol) =
+answered strictness (stitch xs tol) =
     let s = length xs / 4 in
-    stitched (stitch_alone xs way tol (record { numbers = length xs; nodes = s; ends = s / 3 })) (all_shown xs tol)
-answered way (compare xs tol) =
+    stitched (stitch_alone xs strictness tol (record { numbers = length xs; nodes = s; ends = s / 3 })) (all_shown xs tol)
+answered strictness (compare xs tol) =
     let s = length xs / 4 in
     counted (told_count (stitch_comparisons xs tol (record { numbers = length xs; nodes = s; ends = s / 3 })))
-answered way (compare_plane t c xs o n) =
+answered strictness (compare_plane t c xs o n) =
     counted (told_count (plane_comparisons (cell t c xs) (through o n) f0 (record { numbers = 144; nodes = 36; ends = 12 })))
-answered way (tolerance_in xs) = number (tolerance_of 3 xs)
-answered way (root x) = number (found (sqrt_of binary64 x))
+answered strictness (tolerance_in xs) = number (tolerance_of 3 xs)
+answered strictness (root x) = number (found (sqrt_of binary64 x))
 
 -- ---- the table
 

@@ -11,12 +11,12 @@ pub returns-then-segments-ne0 : goal.returns-then-segments-ne0
 returns-then-segments-ne0 c =
     let g = c.args in
     let l = lengths (buffers g.numbers.now g.nodes.now g.ends.now) in
-    let e = λ (way : Strictness). unsuited g.segments.now way g.tol l c.then-segments-ne0.either in
+    let e = λ (strictness : Strictness). unsuited g.segments.now strictness g.tol l c.then-segments-ne0.either in
     (gave_refusal _ (e g.strictness), refused_compared g.segments.now g.tol l (e Usual))
 
 pub returns-then-not-room : goal.returns-then-not-room
 returns-then-not-room c =
     let g = c.args in
     let l = lengths (buffers g.numbers.now g.nodes.now g.ends.now) in
-    let e = λ (way : Strictness). crowded g.segments.now way g.tol l c.if-segments-ne0.false c.if-s-gt384.false (sym c.if-not-room.ensures) in
+    let e = λ (strictness : Strictness). crowded g.segments.now strictness g.tol l c.if-segments-ne0.false c.if-s-gt384.false (sym c.if-not-room.ensures) in
     (gave_refusal _ (e g.strictness), refused_compared g.segments.now g.tol l (e Usual))
