@@ -16,7 +16,13 @@ from .refusal import Refused
 Progress = Callable[[int, int], None]  # cells done, and to do in all
 
 AT_ONCE = 1 << 13  # cells a call of the loop, so that progress is told and an interrupt is heard
-COUNTS = ["listed", "in_loops", "flat", "open"]
+COUNTS = ["listed", "in_loops", "pinched", "flat", "open"]
+PINCHED = COUNTS.index("pinched")
+
+
+def not_drawn(counts: np.ndarray) -> np.ndarray:
+    """How many edges are not drawn, by the counts of each cell: those that are pinched, flat or open."""
+    return counts[:, PINCHED:].sum(axis=1)
 
 
 @dataclass(frozen=True)
@@ -25,11 +31,12 @@ class CellLoop:
 
     name: str
     told: np.dtype
+    stitches: bool  # it is told whether in the strict way
     taken: Callable[[np.ndarray], tuple[np.ndarray, ...]]
 
 
-CUT = CellLoop("cells_by_plane", SECTION, lambda told: (2 * told["points"], told["nodes"], told["loops"]))
-GATHER = CellLoop("cells_gathered", LINE, lambda told: (4 * told["segments"],))
+CUT = CellLoop("cells_by_plane", SECTION, True, lambda told: (2 * told["points"], told["nodes"], told["loops"]))
+GATHER = CellLoop("cells_gathered", LINE, False, lambda told: (4 * told["segments"],))
 
 
 @dataclass
@@ -46,7 +53,7 @@ class Loops:
     ends: np.ndarray
     cell: np.ndarray  # the cell of each loop
     cells: np.ndarray  # the cells that list an edge
-    counts: np.ndarray  # for each of them: listed, in loops, flat, open
+    counts: np.ndarray  # for each of them: listed, in loops, pinched, flat, open
     cell_points: np.ndarray  # for each of them: the first of its points, and the one after the last
     defaulted_by_cell: dict[int, int] = field(default_factory=dict)  # crossings that lie in the middle by default, of each cell with any, also of one that lists no edge
     compared: np.ndarray = field(default_factory=lambda: np.zeros(0, dtype=np.int64))  # the cells with a comparison of points, also one that lists no edge
@@ -54,12 +61,12 @@ class Loops:
 
 
 class Cutter:
-    """Calls for the cells of one mesh, by one plane."""
+    """Calls for the cells of one mesh, by one plane, in the strict way or the usual one."""
 
-    def __init__(self, mesh: Mesh, origin: Vector, normal: Vector, tol: float, own: float = np.inf) -> None:
-        self.mesh, self.origin, self.unit, self.tol, self.own = mesh, origin, unit(normal), tol, own
+    def __init__(self, mesh: Mesh, origin: Vector, normal: Vector, tol: float, own: float = np.inf, strict: bool = False) -> None:
+        self.mesh, self.origin, self.unit, self.tol, self.own, self.strict = mesh, origin, unit(normal), tol, own, strict
         self.vectors = floats(origin), floats(normal)
-        self.place = (mesh.points.ctypes.data, mesh.points.size, *(v.ctypes.data for v in self.vectors), tol)
+        self.place = (mesh.points.ctypes.data, mesh.points.size, *(v.ctypes.data for v in self.vectors))
         self.written = [Growing(np.float64, 1 << 16), Growing(np.uint32, 1 << 15), Growing(np.uint32, 1 << 15)]
         self.told: list[np.ndarray] = []
         self.cells: list[np.ndarray] = []
@@ -92,12 +99,13 @@ class Cutter:
                progress: Callable[[int], None] | None, name: Callable[[int], str]) -> np.ndarray:
         conn, starts = (np.ascontiguousarray(a, dtype=np.int64) for a in (conn, starts))
         told = np.zeros(len(starts) - 1, dtype=loop.told)
+        way = (self.strict,) if loop.stitches else ()
         done = 0
         while done < len(told):
             buffers = [part for buffer in lent for part in buffer.lend(6 * MOST_ENTRIES)]
             part = min(AT_ONCE, len(told) - done)
             answered = getattr(library(), loop.name)(
-                number, conn.ctypes.data, starts[done:].ctypes.data, part, *self.place, *buffers, told[done:].ctypes.data)
+                number, conn.ctypes.data, starts[done:].ctypes.data, part, *self.place, *way, self.tol, *buffers, told[done:].ctypes.data)
             new = told[done : done + answered]
             for buffer, used in zip(lent, loop.taken(new)):
                 buffer.used += int(used.sum())

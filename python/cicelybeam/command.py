@@ -25,7 +25,8 @@ exit status:
   1  there is no cut or no output: the file, the cell or the plane was refused, and the message says why
   2  the command line is wrong
   3  area is lost: a piece is not drawn, or a cell that the plane passes through lacks an edge; or the area jumps
-     at this plane; or a crossing is guessed (--allow-undrawn accepts it, --shift looks for a plane next to it)
+     at this plane; or a crossing is guessed; or with --strict a hole is drawn as if it were filled (--allow-undrawn
+     accepts it, --shift looks for a plane next to it)
   4  cells of a type that is not cut may reach the cut (--allow-uncut accepts it)
   130  interrupted by Ctrl-C; no output is left half written
 """
@@ -49,6 +50,7 @@ terms:
   trace     a segment of the plane on a face of a cell, before its ends are welded within the tolerance
   listed    an edge of the cut: a trace with its ends welded, once for each two points that it joins
   in loops  edges of walks that close and have an area: the polygons that are drawn
+  pinched   with --strict: edges of walks that close and pass twice through a point, not drawn
   flat      edges of walks that close without an area above the squared tolerance, not drawn
   open      edges of walks that do not close, not drawn
   guessed   crossings that lie in the middle of their edges by default: the distances of an edge's ends from the plane
@@ -112,6 +114,13 @@ class _Flag(_Once):
         super().__init__(option_strings, dest, nargs=0, default=False, **more)
 
 
+class _NoStrictLine(argparse.Action):
+    """Refuses the option, and says why: line cuts are in the usual way."""
+
+    def __call__(self, parser, given, value, option=None) -> None:
+        parser.error(f"a line cut has no strict way: leave {option} out, or cut by a plane that holds the line")
+
+
 class _Parser(argparse.ArgumentParser):
     """Every option once, and by its whole name."""
 
@@ -140,6 +149,10 @@ def _parser() -> argparse.ArgumentParser:
         command.add_argument("--allow-undrawn", action=_Flag, help="exit status 0 also where area is lost or a crossing is guessed")
         command.add_argument("--allow-uncut", action=_Flag, help="exit status 0 also where the cut may reach cells of types that are not cut")
         command.add_argument("--quiet", action=_Flag, help="print warnings only")
+    plane.add_argument("--strict", action=_Flag, help=(
+        "do not draw a polygon that passes twice through one point, as some journals' tools reject such a polygon: its edges are counted "
+        "as pinched, the area is that much smaller, and the record says by how much; without, it is cut there into rings, which are drawn"))
+    line.add_argument("--strict", action=_NoStrictLine, nargs=0, help=argparse.SUPPRESS)
     plane.add_argument("--shift", action=_Flag, help=(
         "cut by the nearest parallel plane by which everything is drawn, and tell how far away it is"))
     plane.add_argument("--shift-most", type=_shift_most, metavar="D", help="how far to look for it; by default 1e-6 of the mesh's extent")
@@ -334,8 +347,8 @@ def _cut(given: argparse.Namespace, mesh: meshes.Mesh) -> PlaneCut | LineCut:
     bar = _Bar()
     try:
         if given.command == "plane":
-            cut = cut_plane(mesh, given.origin, _along(given.normal, 3), given.tolerance, shift=given.shift, shift_most=given.shift_most,
-                            progress=bar.step)
+            cut = cut_plane(mesh, given.origin, _along(given.normal, 3), given.tolerance, strict=given.strict, shift=given.shift,
+                            shift_most=given.shift_most, progress=bar.step)
             if not cut.record.nothing_lost and not cut.record.shift_most:
                 cut.look_for_shift(given.shift_most)
             return cut

@@ -21,7 +21,7 @@ class Section(ctypes.Structure):
 
     _fields_ = [
         (name, c_uint32)
-        for name in ("refusal", "points", "nodes", "loops", "listed", "in_loops", "flat", "open", "defaulted", "comparisons")
+        for name in ("refusal", "points", "nodes", "loops", "listed", "in_loops", "pinched", "flat", "open", "defaulted", "comparisons")
     ]
 
 
@@ -69,22 +69,23 @@ def _load() -> ctypes.CDLL:
 def _declared(lib: ctypes.CDLL) -> ctypes.CDLL:
     lent = [c_void_p, c_size_t]
     cell = [c_uint8, *lent, *lent]
-    cut = [*lent, *lent, c_double]
-    lib.cicelybeam_plane.argtypes = [*cell, *cut, *lent, *lent, *lent]
+    cut = [*lent, *lent]
+    way = c_uint8
+    lib.cicelybeam_plane.argtypes = [*cell, *cut, way, c_double, *lent, *lent, *lent]
     lib.cicelybeam_plane.restype = Section
-    lib.cicelybeam_stitch.argtypes = [*lent, c_double, *lent, *lent, *lent]
+    lib.cicelybeam_stitch.argtypes = [*lent, way, c_double, *lent, *lent, *lent]
     lib.cicelybeam_stitch.restype = Section
     for name in ("gather", "line_in_space", "plane_cell_by_normal", "plane_cell_by_direction"):
         function = getattr(lib, "cicelybeam_" + name)
-        function.argtypes = [*cell, *cut, *lent]
+        function.argtypes = [*cell, *cut, c_double, *lent]
         function.restype = Line
     for name in ("tolerance_in_space", "tolerance_in_plane"):
         function = getattr(lib, "cicelybeam_" + name)
         function.argtypes = lent
         function.restype = Tolerance
-    cells = [c_uint8, c_void_p, *lent, *lent, c_void_p, c_void_p, c_double]
-    lib.cells_by_plane.argtypes = [*cells, *lent, *lent, *lent, c_void_p]
-    lib.cells_gathered.argtypes = [*cells, *lent, c_void_p]
+    cells = [c_uint8, c_void_p, *lent, *lent, c_void_p, c_void_p]
+    lib.cells_by_plane.argtypes = [*cells, way, c_double, *lent, *lent, *lent, c_void_p]
+    lib.cells_gathered.argtypes = [*cells, c_double, *lent, c_void_p]
     lib.cells_by_plane.restype = lib.cells_gathered.restype = c_size_t
     lib.cicelybeam_sqrt.argtypes = [c_double]
     lib.cicelybeam_sqrt.restype = c_double

@@ -3,7 +3,11 @@
 A cell is cut once more by parallel planes just above and below, 4 tolerances away, and 16; where it is not drawn whole there,
 further away. What it has there and nobody draws in the plane itself is missing. A piece along an edge grows with the
 distance, so the two are carried back to distance 0, and a sliver vanishes. No area is lost if what is left is not wider
-than the tolerance.
+than the tolerance. These cuts are in the usual way.
+
+What a cell with pinched edges has is known where the usual way draws it whole in the plane itself: what it has there and
+nobody draws is missing. Without a pinched polygon that bounds a hole, or that a hole lies in, the hole is drawn as if it
+were filled: that much the area is too large.
 """
 from __future__ import annotations
 
@@ -13,7 +17,7 @@ import numpy as np
 from shapely.geometry import MultiPoint, Polygon
 from shapely.geometry.base import BaseGeometry
 
-from .cells import Cutter, Loops
+from .cells import Cutter, Loops, not_drawn
 from .mesh import Block, Mesh, Polyhedra
 from .netarea import near_bounds, ring_shapes
 from .place import Frame, Vector, moved
@@ -26,38 +30,49 @@ GROWTH = 4
 
 @dataclass
 class Near:
-    """Some cells cut by a parallel plane: the area of each, whether it is drawn whole, and the rings."""
+    """Some cells cut by a parallel plane, or by the plane itself, in the usual way: the area of each, whether it is drawn whole, and
+    the rings."""
 
+    cells: np.ndarray
     area: np.ndarray
     whole: np.ndarray
     rings: Rings
 
     def shape(self, cell: int) -> BaseGeometry:
-        first, after = np.searchsorted(self.rings.cell, [cell, cell + 1])
-        return union([shape for _, shape in ring_shapes(self.rings, range(first, after))])
+        return _shape(self.rings, cell)
+
+
+def _shape(rings: Rings, cell: int) -> BaseGeometry:
+    first, after = np.searchsorted(rings.cell, [cell, cell + 1])
+    return union([shape for _, shape in ring_shapes(rings, range(first, after))])
 
 
 @dataclass
 class Lost:
-    """For each cell looked at: the area that is lost, 0 where the plane only touches it; and the area of all together."""
+    """For each cell looked at: the area that is lost, 0 where the plane only touches it; the area of all together; and for each the
+    area of holes that are drawn as if they were filled."""
 
     cells: np.ndarray
     area: np.ndarray
     total: float
+    filled: np.ndarray
 
 
-def lost_area(mesh: Mesh, frame: Frame, normal: Vector, tol: float, cells: np.ndarray, flat: np.ndarray, loops: Loops, rings: Rings) -> Lost:
-    """Of these cells, sorted; those in `flat` lie wholly within the tolerance, so that their corners stand for their section."""
+def lost_area(mesh: Mesh, frame: Frame, normal: Vector, tol: float, cells: np.ndarray, flat: np.ndarray, usual: Near, loops: Loops,
+              rings: Rings) -> Lost:
+    """Of these cells, sorted; those in `flat` lie wholly within the tolerance, so that their corners stand for their section; `usual`
+    has those with pinched edges cut in the plane itself."""
     within = {*flat.tolist()}
     if not len(cells):
-        return Lost(cells, np.zeros(0), 0.0)
+        return Lost(cells, np.zeros(0), 0.0, np.zeros(0))
+    known = {*usual.cells[usual.whole].tolist()}
     found = _Estimate(mesh, frame, normal, tol, cells)
     drawn = np.zeros(len(cells))
     own = np.isin(rings.cell, cells)
     np.add.at(drawn, np.searchsorted(cells, rings.cell[own]), rings.area[own])
-    doubtful = np.flatnonzero(~(found.area - drawn <= tol * found.size) | (found.level < 0).any(axis=0) | np.isin(cells, flat))
-    shapes = {int(k): found.shapes(int(k), cells[k] in within, loops) for k in doubtful}
-    area, pieces = np.zeros(len(cells)), []
+    doubtful = np.flatnonzero(~(found.area - drawn <= tol * found.size) | (found.level < 0).any(axis=0) | np.isin(cells, [*within, *known]))
+    shapes = {int(k): (usual.shape(cells[k]), None) if cells[k] in known else found.shapes(int(k), cells[k] in within, loops) for k in doubtful}
+    area, filled, pieces = np.zeros(len(cells)), np.zeros(len(cells)), []
     covered = _Drawn(rings, [shape for pair in shapes.values() for shape in pair])
     for k, (at, further) in shapes.items():
         piece = covered.less(at)
@@ -65,7 +80,10 @@ def lost_area(mesh: Mesh, frame: Frame, normal: Vector, tol: float, cells: np.nd
         if missing > (1e-9 * at.area if cells[k] in within else tol * at.length / 2):
             area[k] = missing
             pieces.append(piece)
-    return Lost(cells, area, float(union(pieces).area) if pieces else 0.0)
+        beyond = less(_shape(rings, cells[k]), [at]).area if cells[k] in known else 0.0
+        if beyond > tol * at.length / 2:
+            filled[k] = beyond
+    return Lost(cells, area, float(union(pieces).area) if pieces else 0.0, filled)
 
 
 class _Drawn:
@@ -110,7 +128,7 @@ class _Estimate:
         if (side, level) not in self.cuts:
             away = (1 - 2 * side) * self.tol * GROWTH ** (level + 1)
             origin = moved(self.frame.origin, self.frame.normal, away)
-            self.cuts[side, level] = _cut_near(self.mesh, origin, self.normal, self.tol, self.cells)
+            self.cuts[side, level] = cut_alone(self.mesh, origin, self.normal, self.tol, self.cells)
         return self.cuts[side, level]
 
     def shapes(self, k: int, flat: bool, loops: Loops) -> tuple[BaseGeometry, BaseGeometry | None]:
@@ -141,7 +159,8 @@ def _sizes(mesh: Mesh, cells: np.ndarray) -> np.ndarray:
     return np.concatenate(sizes)
 
 
-def _cut_near(mesh: Mesh, origin: Vector, normal: Vector, tol: float, cells: np.ndarray) -> Near:
+def cut_alone(mesh: Mesh, origin: Vector, normal: Vector, tol: float, cells: np.ndarray) -> Near:
+    """These cells, sorted, cut by a plane in the usual way."""
     cutter = Cutter(mesh, origin, normal, tol)
     for block, part in _by_block(mesh, cells):
         cutter.cut(block, part)
@@ -149,5 +168,5 @@ def _cut_near(mesh: Mesh, origin: Vector, normal: Vector, tol: float, cells: np.
     rings = simple_rings(loops, tol)
     area, whole = np.zeros(len(cells)), np.ones(len(cells), dtype=bool)
     np.add.at(area, np.searchsorted(cells, rings.cell), rings.area)
-    whole[np.searchsorted(cells, loops.cells)] = (loops.counts[:, 2:] == 0).all(axis=1)
-    return Near(area, whole, rings)
+    whole[np.searchsorted(cells, loops.cells)] = not_drawn(loops.counts) == 0
+    return Near(cells, area, whole, rings)

@@ -277,6 +277,8 @@ def _section(cut: PlaneCut, look: Look) -> Sheet:
     _mark(sheet, findings(cut), lambda found: project(_near(found)))
     record = cut.record
     words = f"{number(record.polygons, 'polygon')}, " + (f"{number(record.traces or 0, 'trace')}, " if traced else "") + f"area {record.area:.6g}"
+    if record.filled_area:
+        words += f", about {record.filled_area:.2g} of it in filled holes"
     if record.lost_area:
         words += f", about {record.lost_area:.2g} lost"
     if record.defaulted:
@@ -319,8 +321,8 @@ def _draw_traces(sheet: Sheet, traces: Traces, project: Callable[[np.ndarray], n
 
 
 def _draw_undrawn(sheet: Sheet, cut: PlaneCut, points: np.ndarray, size: float) -> None:
-    """The edges that were not drawn: in red where area is lost or a corner is not finite, else as thin as the cells' own."""
-    lost = {cell.cell for cell in cut.record.lost_cells} | {*cut.record.not_finite}
+    """The edges that were not drawn: in red where area is lost, a hole is filled or a corner is not finite, else as thin as the cells' own."""
+    lost = {cell.cell for cell in cut.record.lost_cells} | {*cut.record.filled_cells, *cut.record.not_finite}
     edges = undrawn_edges(cut)
     touched, missing = [edge for cell, edge in edges if cell not in lost], [edge for cell, edge in edges if cell in lost]
     for colour, chosen in ((INK, touched), (RED, missing)):
@@ -354,6 +356,7 @@ MARKS = {  # the beginning of a reason: marker, colour, fill, size, words
     "area lost": ("o", RED, RED, 4.0, "area lost"),
     "touched": ("o", INK, "white", 2.5, "touched, no area lost"),
     "cells of this type": ("s", INK, "none", 6.0, "not cut"),
+    "a hole is filled": ("P", RED, "none", 5.5, "hole filled"),
     "the area jumps": ("^", RED, "none", 5.0, "the area jumps"),
     "guessed": ("D", RED, "none", 6.5, "crossing guessed"),
     "": ("x", RED, RED, 5.0, "not whole"),

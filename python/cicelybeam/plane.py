@@ -10,7 +10,7 @@ import meshio
 import numpy as np
 
 from . import place
-from .cells import Progress
+from .cells import Progress, not_drawn
 from .library import slice_tolerance
 from .mesh import Mesh, of_meshio
 from .place import Frame
@@ -42,7 +42,7 @@ class PlaneCut(Published):
     outer: np.ndarray  # the ring that a ring is a hole of, or its own number
     side: np.ndarray  # 0: the plane passes through the ring's cell; 1: the cell lies above and is touched; -1: below
     cells: np.ndarray  # the cells that list an edge
-    counts: np.ndarray  # for each of them: listed, in loops, flat, open
+    counts: np.ndarray  # for each of them: listed, in loops, pinched, flat, open
     cell_points: np.ndarray  # for each of them: the first of its points, and the one after the last
     defaulted_by_cell: dict[int, int]  # crossings that lie in the middle by default, of each cell with any, also of one that lists no edge
     compared: np.ndarray  # the cells with a comparison of points, also one that lists no edge
@@ -134,7 +134,7 @@ class PlaneCut(Published):
 
     def undrawn_points(self) -> dict[int, np.ndarray]:
         """For each cell with edges that were not drawn: the points that the cut gives for it."""
-        rows = np.flatnonzero(self.counts[:, 2] + self.counts[:, 3])
+        rows = np.flatnonzero(not_drawn(self.counts))
         return {int(self.cells[k]): self.points[slice(*self.cell_points[k])] for k in rows}
 
     def traces(self) -> Traces:
@@ -170,7 +170,7 @@ class PlaneCut(Published):
             found = Section(mesh, replace(self.asked, shift=shift))
             return found.drawn(LOOKED_AT if enough == Drawn.AREA else 0), found.net.area
 
-        wanted = Wanted(enough, record.area + record.lost_area)
+        wanted = Wanted(enough, record.area + record.lost_area - record.filled_area)
         with np.errstate(all="ignore"):  # as in the cut itself
             record.shift_that_draws_all = nearest_shift(self.mesh, self.near, self.asked.tol, drawn_at, record.shift_most, wanted)
         return record.shift_that_draws_all
@@ -185,6 +185,7 @@ def cut_plane(
     normal: object,
     tolerance: float | None = None,
     *,
+    strict: bool = False,
     shift: bool = False,
     shift_most: float | None = None,
     leave_out: bool = True,
@@ -193,7 +194,8 @@ def cut_plane(
     """All cells of a space mesh cut by the plane through origin with this normal, which need not be of length 1.
 
     The tolerance is the distance up to which a point counts as on the plane and two points as one; by default the
-    mesh's own. With `shift` the cut is by the nearest parallel plane by which everything is drawn, up to `shift_most` away (by
+    mesh's own. With `strict` a polygon that passes twice through a point is not drawn: its edges are counted as pinched, and its area
+    is told as lost. Without, it is cut there into rings. With `shift` the cut is by the nearest parallel plane by which everything is drawn, up to `shift_most` away (by
     default 1e-6 of the mesh's extent); `record.shift` tells how far it is, or is 0 where there is none.
     `leave_out=False` calls the library also for cells that cannot touch the plane: same answer, slower.
 
@@ -212,7 +214,7 @@ def cut_plane(
     tol = place.chosen_tolerance(tolerance, own, found.source)
     if shift_most is not None and not 0.0 < shift_most < math.inf:
         raise CicelybeamError(f"the distance {shift_most} for the search is not a number above 0")
-    asked = Asked(origin, normal, tol, own)
+    asked = Asked(origin, normal, tol, own, bool(strict))
     with np.errstate(all="ignore"):  # a cell with numbers that overflow is told of; numpy need not say so as well
         cut = _made(Section(found, asked, leave_out, progress))
         if shift and not (cut.record.all_drawn and cut.record.nothing_lost):

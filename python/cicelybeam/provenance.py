@@ -32,7 +32,8 @@ def origin_of(cut: PlaneCut | LineCut, command: str | None = None) -> dict:
 def _in_python(cut: PlaneCut | LineCut) -> str:
     record = cut.record
     name, way = ("cut_plane", cut.frame.normal) if isinstance(cut, PlaneCut) else ("cut_line", cut.direction)
-    return f"cicelybeam.{name}(cicelybeam.read({cut.mesh.source!r}), {tuple(record.origin)}, {tuple(way)}, {record.tolerance!r})"
+    strict = ", strict=True" if isinstance(cut, PlaneCut) and record.strict else ""
+    return f"cicelybeam.{name}(cicelybeam.read({cut.mesh.source!r}), {tuple(record.origin)}, {tuple(way)}, {record.tolerance!r}{strict})"
 
 
 def _of_mesh(cut: PlaneCut | LineCut) -> str:
@@ -62,8 +63,9 @@ def proved(cut: PlaneCut | LineCut, comparisons: bool) -> list[tuple[str, str]]:
     `comparisons`: whether the report tells how many comparisons of points a plane cut took.
     """
     if isinstance(cut, PlaneCut):
-        edges = ("Proved: every polygon that a cell gives is closed by edges of the cut, each of which is used once; and every edge "
-                 "that a cell lists is counted as drawn, flat or open, so that none is lost unseen.")
+        strict, kinds = (", and passes no point twice", "drawn, pinched, flat") if cut.record.strict else ("", "drawn, flat")
+        edges = (f"Proved: every polygon that a cell gives is closed by edges of the cut, each of which is used once{strict}; and every edge "
+                 f"that a cell lists is counted as {kinds} or open, so that none is lost unseen.")
     else:
         edges = ("Proved: the segments that a cell gives are those of the rules of the port, for any cell, line and tolerance, or a "
                  "refusal by number.")

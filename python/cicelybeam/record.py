@@ -8,6 +8,7 @@ from typing import TYPE_CHECKING
 
 import numpy as np
 
+from .cells import COUNTS, not_drawn
 from .place import Sides, distances
 from .version import VERSION
 
@@ -16,7 +17,7 @@ if TYPE_CHECKING:
     from .plane import PlaneCut
     from .section import Section
 
-TOUCHING, LOST = "touching", "area lost"  # why something of a cell is not drawn
+TOUCHING, LOST, FILLED = "touching", "area lost", "hole filled"  # what it means that something of a cell is not drawn
 
 
 @dataclass
@@ -24,13 +25,15 @@ class UndrawnCell:
     """A cell where something was not drawn, and the points in space that the cut gives for it, or its middle where it gives none.
 
     The reason is `touching` where no area is lost: the plane touches the cell, along an edge, along a face that other cells
-    draw, or in a piece not wider than the tolerance. Else it is `area lost`, with an estimate of how much.
+    draw, or in a piece not wider than the tolerance. Else it is `area lost`, with an estimate of how much; or `hole filled`, where a
+    pinched polygon bounds a hole, or a hole lies in it, and that alone is wrong with the area.
     """
 
     cell: int
     type: str
     listed: int
     in_loops: int
+    pinched: int
     flat: int
     open: int
     reason: str
@@ -41,6 +44,14 @@ class UndrawnCell:
     @property
     def touching(self) -> bool:
         return self.reason == TOUCHING
+
+    @property
+    def not_drawn(self) -> int:
+        return self.pinched + self.flat + self.open
+
+    def edges_in_words(self, strict: bool) -> str:
+        pinched = f"{self.pinched} pinched, " if strict else ""
+        return f"{pinched}{self.flat} flat and {self.open} open of {self.listed}"
 
 
 @dataclass
@@ -74,6 +85,7 @@ class PlaneRecord:
     shift: float  # how far along the normal from the origin given the cells were cut
     tolerance: float
     mesh_tolerance: float
+    strict: bool  # cut in the strict way: a polygon that passes twice through a point is pinched, and not drawn
     extent: list[list[float]]  # the least and the greatest of each coordinate of the mesh's nodes
     cells: int  # in the mesh
     cells_by_type: dict[str, int]  # of types that are cut
@@ -93,17 +105,21 @@ class PlaneRecord:
     doubled_polygons: int  # of cells that the plane passes through, and that another such polygon coincides with
     lost_area: float  # an estimate of what is missing
     lost_share: float  # of the whole with it
+    filled_area: float  # of holes that are drawn as if they were filled, since a polygon that bounds one or lies around it is pinched
+    filled_cells: list[int]  # the cells with these holes
     jump_area: float  # by how much the area differs between the planes just above and just below, by faces that are not flat
     jump_cells: list[int]  # the cells with these faces
     listed: int
     in_loops: int
+    pinched: int  # 0 in the usual way
+    pinched_cells: list[int]  # the cells with a pinched edge
     flat: int
     open: int
     defaulted: int  # crossings that lie in the middle of their edges by default, also of edges that are not listed
     defaulted_cells: list[DefaultedCell]  # the cells with them
     comparisons: int  # of points, in all cells of this cut, while the ends of segments were welded
     most_comparisons: ComparedCell | None  # the cell with the most of them, the first of several
-    with_undrawn: int  # cells with a flat or open edge
+    with_undrawn: int  # cells with a pinched, flat or open edge
     touching_cells: int  # of the cells in undrawn, those with no area lost
     undrawn: list[UndrawnCell]
     crossed_without_edge: list[int]
@@ -121,7 +137,7 @@ class PlaneRecord:
     @property
     def all_drawn(self) -> bool:
         """Whether every listed edge is drawn and no gap was seen in a cell that is cut."""
-        return self.flat == 0 and self.open == 0 and not self._gaps()
+        return self.pinched == 0 and self.flat == 0 and self.open == 0 and not self._gaps()
 
     def _gaps(self) -> bool:
         return any((self.crossed_without_edge, self.crossed_face_without_segment, self.within_tolerance, self.not_finite))
@@ -133,7 +149,7 @@ class PlaneRecord:
 
     @property
     def lost_cells(self) -> list[UndrawnCell]:
-        return [cell for cell in self.undrawn if not cell.touching]
+        return [cell for cell in self.undrawn if cell.reason == LOST]
 
     @property
     def all_cut(self) -> bool:
@@ -148,6 +164,8 @@ class PlaneRecord:
             kinds = Counter(cell.what for cell in self.lost_cells)
             found.append((3, f"{number(len(self.lost_cells), 'cell')} with area lost, about {self.lost_area:.3g} or "
                              f"{100 * self.lost_share:.3g} % of the whole: " + ", ".join(f"{count} with {what}" for what, count in kinds.items())))
+        if self.filled_cells:
+            found.append((3, self._filled() + some(self.filled_cells)))
         if self.jump_area:
             found.append((3, f"the area jumps by about {self.jump_area:.3g} here: the plane passes through a corner of a face that is not "
                              f"flat and that no other cell shares, of {number(len(self.jump_cells), 'cell')}{some(self.jump_cells)}"))
@@ -161,6 +179,10 @@ class PlaneRecord:
             found.append((4, f"the plane may reach cells of types that are not cut: {counted(self.not_cut_reached)}"))
         found += [(4, f"meshio left cells out while reading: {remark}") for remark in self.dropped]
         return found
+
+    def _filled(self) -> str:
+        return (f"the area is too large by about {self.filled_area:.3g}, that of holes drawn as if they were filled, since a polygon that "
+                f"bounds one or lies around it is pinched, in {number(len(self.filled_cells), 'cell')}")
 
     @property
     def advice(self) -> str:
@@ -178,19 +200,23 @@ class PlaneRecord:
         cells, edges = sum(self.cells_by_type.values()), number(self.listed, "edge")
         shifted = f" shifted by {self.shift:.3g} along it," if self.shift else ""
         start = (
-            f"The mesh's {number(cells, 'cell')} {were(cells)} cut with Cicelybeam {self.version} by the plane through "
+            f"The mesh's {number(cells, 'cell')} {were(cells)} cut with Cicelybeam {self.version}{self._way()} by the plane through "
             f"{vector(self.origin)} with unit normal {vector(self.normal)}{',' + shifted if shifted else ''} and tolerance {self.tolerance:.3g}: "
             f"{number(self.with_edges, 'cell')} {'lists' if self.with_edges == 1 else 'list'} {edges}, of which {self.in_loops} "
             f"{'bounds' if self.in_loops == 1 else 'bound'} the {number(self.polygons, 'polygon')} drawn, with a total area of {self.area:.12g}"
         )
         return "; ".join([start + self._drawn_in_words(), *self._remarks()]) + "."
 
+    def _way(self) -> str:
+        return " in its strict way, which draws no polygon that passes twice through a point," if self.strict else ""
+
     def _drawn_in_words(self) -> str:
-        if not self.flat and not self.open:
+        kinds = [(self.pinched, "pinched"), (self.flat, "flat"), (self.open, "open")]
+        if not any(count for count, _ in kinds):
             return ", and no listed edge is left undrawn"
-        edges = " and ".join(number(count, f"{kind} edge") for count, kind in ((self.flat, "flat"), (self.open, "open")) if count)
-        one = self.flat + self.open == 1
-        touching = sum(cell.touching and cell.flat + cell.open > 0 for cell in self.undrawn)  # of others it is not known, or area is lost
+        edges = " and ".join(number(count, f"{kind} edge") for count, kind in kinds if count)
+        one = sum(count for count, _ in kinds) == 1
+        touching = sum(cell.touching and cell.not_drawn > 0 for cell in self.undrawn)  # of others it is not known, or area is lost
         return (f", and {edges} in {number(self.with_undrawn, 'cell')} {'is' if one else 'are'} not drawn"
                 + (f", which {'bounds' if one else 'bound'} no area" if touching == self.with_undrawn else ""))
 
@@ -202,6 +228,8 @@ class PlaneRecord:
         if self.lost_cells:
             found.append(f"an area of about {self.lost_area:.3g} is lost in {number(len(self.lost_cells), 'cell')}, "
                          f"{100 * self.lost_share:.3g} % of the whole")
+        if self.filled_cells:
+            found.append(self._filled())
         if self.jump_area:
             found.append(f"the area jumps by about {self.jump_area:.3g} at this plane, by faces that are not flat")
         if self.repeated_area:
@@ -236,8 +264,8 @@ class PlaneRecord:
         """The record as it is printed, with a line for the comparisons of points where asked."""
         text = [f"{name:<18}{value}" for name, value in self._lines(comparisons)]
         lost = self.lost_cells
-        text += [f"AREA LOST         cell {u.cell} ({u.type}): about {u.lost_area:.3g}; {u.what}: {u.flat} flat and {u.open} open of "
-                 f"{u.listed}, near {vector(u.points[0])}" for u in lost[:20]]
+        text += [f"AREA LOST         cell {u.cell} ({u.type}): about {u.lost_area:.3g}; {u.what}: "
+                 f"{u.edges_in_words(self.strict)}, near {vector(u.points[0])}" for u in lost[:20]]
         if len(lost) > 20:
             text.append(f"AREA LOST         and {number(len(lost) - 20, 'more cell')}, all in the report")
         text += [f"WARNING           {warning}" for warning in self.warnings]
@@ -246,6 +274,7 @@ class PlaneRecord:
     def _lines(self, comparisons: bool) -> list[tuple[str, str]]:
         shift = [("shift", f"{self.shift:.6g} along the normal")] if self.shift else []
         traces = [] if self.traces is None else [("traces", f"{self.traces} on the faces of {number(self.with_traces or 0, 'cell')}")]
+        pinched = [("pinched", self._pinched())] if self.strict else []
         lines = [
             ("mesh", self.source),
             ("extent", extent(self.extent)),
@@ -257,7 +286,9 @@ class PlaneRecord:
             ("tolerance", f"{self.tolerance:.6g} (the mesh's own: {self.mesh_tolerance:.6g})"),
             ("passed through", f"{number(self.crossed, 'cell')}; {number(self.with_edges, 'cell')} with an edge"),
             *traces,
-            ("edges", f"{self.listed} listed: {self.in_loops} in loops, {self.flat} flat, {self.open} open"),
+            ("edges", f"{self.listed} listed: {self.in_loops} in loops, " + (f"{self.pinched} pinched, " if self.strict else "")
+             + f"{self.flat} flat, {self.open} open"),
+            *pinched,
             ("guessed", defaulted_where(self.defaulted_cells)),
             *([("comparisons", comparisons_in_words(self.comparisons, self.most_comparisons))] if comparisons else []),
             ("drawn", f"{number(self.polygons, 'polygon')}" + (f" with {number(self.holes, 'hole')}" if self.holes else "")),
@@ -270,6 +301,7 @@ class PlaneRecord:
             ("self-crossing", self.self_crossing, f"{number(self.self_crossing, 'cell')} with polygons that cross, by the even-odd rule"),
             ("touched", self.touching_cells, f"{number(self.touching_cells, 'cell')} where what is not drawn bounds no area"),
             ("lost", self.lost_cells, f"about {self.lost_area:.6g}, {100 * self.lost_share:.3g} % of the whole, in {number(len(self.lost_cells), 'cell')}"),
+            ("filled", self.filled_cells, self._filled() + some(self.filled_cells)),
             ("jumps", self.jump_area, f"by about {self.jump_area:.6g} at this plane, by faces that are not flat, of "
                                                         f"{number(len(self.jump_cells), 'cell')}{some(self.jump_cells)}"),
             ("no edge", self.crossed_without_edge, f"{number(len(self.crossed_without_edge), 'cell')} passed through{some(self.crossed_without_edge)}"),
@@ -279,6 +311,10 @@ class PlaneRecord:
             ("not finite", self.not_finite, f"{number(len(self.not_finite), 'cell')}{some(self.not_finite)}"),
         ]
         return lines + [(name, words) for name, shown, words in more if shown]
+
+    def _pinched(self) -> str:
+        where = f" in {number(len(self.pinched_cells), 'cell')}{some(self.pinched_cells)}" if self.pinched else ""
+        return f"{number(self.pinched, 'edge')}{where}; the strict way draws no polygon that passes twice through a point"
 
     def _not_cut(self) -> str:
         parts = []
@@ -391,19 +427,21 @@ def comparisons_in_words(count: int, most: ComparedCell | None) -> str:
 def plane_record(cut: PlaneCut, section: Section) -> PlaneRecord:
     mesh, frame, asked = cut.mesh, cut.frame, cut.asked
     reached, rings, net = section.reached, section.rings, section.net
-    listed, in_loops, flat, opened = cut.counts.sum(axis=0).tolist()
-    lost, undrawn = section.lost.total, _undrawn(cut, section)
+    lost, filled, undrawn = section.lost.total, section.lost.filled, _undrawn(cut, section)
+    whole = net.area + lost - float(filled.sum())
     record = PlaneRecord(
         VERSION, mesh.source, list(asked.origin), list(frame.normal), list(frame.u), list(frame.v), asked.shift, asked.tol, asked.own,
-        mesh.extent, mesh.total, mesh.types(), mesh.not_cut(), _not_cut_reached(mesh, section.sides),
+        asked.strict, mesh.extent, mesh.total, mesh.types(), mesh.not_cut(), _not_cut_reached(mesh, section.sides),
         handed_over=reached.handed_over, straightened=reached.curved, crossed=len(reached.through), with_edges=len(cut.cells),
         polygons=int((~cut.hole).sum()), holes=int(cut.hole.sum()), self_touching=rings.self_touching, self_crossing=rings.crossing,
         area=net.area, repeated_area=net.repeated, coincident_polygons=net.coincident, doubled_polygons=net.doubled,
-        lost_area=lost, lost_share=lost / (net.area + lost) if lost else 0.0,
-        jump_area=section.jumps.area, jump_cells=section.jumps.cells, listed=listed, in_loops=in_loops, flat=flat, open=opened,
+        lost_area=lost, lost_share=lost / whole if lost else 0.0,
+        filled_area=float(filled.sum()), filled_cells=section.lost.cells[filled > 0].tolist(),
+        jump_area=section.jumps.area, jump_cells=section.jumps.cells,
+        **dict(zip(COUNTS, cut.counts.sum(axis=0).tolist())), pinched_cells=section.pinched.tolist(),
         defaulted=cut.defaulted, defaulted_cells=defaulted_cells(mesh, cut.defaulted_by_cell),
         comparisons=cut.comparisons, most_comparisons=most_comparisons(cut),
-        with_undrawn=int((cut.counts[:, 2:] > 0).any(axis=1).sum()), touching_cells=sum(cell.touching for cell in undrawn), undrawn=undrawn,
+        with_undrawn=int((not_drawn(cut.counts) > 0).sum()), touching_cells=sum(cell.touching for cell in undrawn), undrawn=undrawn,
         crossed_without_edge=reached.no_edge.tolist(), crossed_face_without_segment=reached.no_segment.tolist(),
         within_tolerance=reached.within.tolist(), not_finite=reached.not_finite.tolist(),
         missed_by=_missed_by(cut, section), dropped=mesh.dropped,
@@ -416,15 +454,16 @@ def _undrawn(cut: PlaneCut, section: Section) -> list[UndrawnCell]:
     cells, reached = section.lost.cells, section.reached
     rows = np.searchsorted(cut.cells, cells)
     space = cut.in_space() if len(cells) else None
-    no_edge, no_segment, within = ({*part.tolist()} for part in (reached.no_edge, reached.no_segment, reached.within))
+    no_edge, no_segment, within, pinched = ({*part.tolist()} for part in (reached.no_edge, reached.no_segment, reached.within, section.pinched))
     found = []
-    for cell, row, name, area in zip(cells.tolist(), rows.tolist(), cut.mesh.type_of(cells), section.lost.area.tolist()):
+    for cell, row, name, area, filled in zip(cells.tolist(), rows.tolist(), cut.mesh.type_of(cells), section.lost.area.tolist(),
+                                             section.lost.filled.tolist()):
         listed = row < len(cut.cells) and cut.cells[row] == cell
-        counts = cut.counts[row].tolist() if listed else [0, 0, 0, 0]
+        counts = cut.counts[row].tolist() if listed else [0] * len(COUNTS)
         what = ("no edge" if cell in no_edge else "a face without a segment" if cell in no_segment
-                else "all corners within the tolerance" if cell in within else "edges not drawn")
+                else "all corners within the tolerance" if cell in within else "pinched edges" if cell in pinched else "edges not drawn")
         points = space[slice(*cut.cell_points[row])] if listed else cut.mesh.middle(cell)[None]
-        found.append(UndrawnCell(cell, str(name), *counts, LOST if area else TOUCHING, what, area, points.tolist()))
+        found.append(UndrawnCell(cell, str(name), *counts, LOST if area else FILLED if filled else TOUCHING, what, area, points.tolist()))
     return found
 
 

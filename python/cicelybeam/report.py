@@ -24,7 +24,7 @@ from .undrawn import findings, undrawn_edges
 from .vtp import traces_vtp, vtp
 
 PLANE_COLUMNS = ("polygon", "cell", "type", "group", "area", "hole_of", "side", "point", "x", "y", "z", "u", "v")
-CELL_COLUMNS = ("cell", "type", "group", "listed", "in_loops", "flat", "open", "defaulted", "comparisons", "area", "x", "y", "z")
+CELL_COLUMNS = ("cell", "type", "group", *COUNTS, "defaulted", "comparisons", "area", "x", "y", "z")
 TRACE_COLUMNS = ("cell", "type", "group", "face", "u1", "v1", "u2", "v2", "x1", "y1", "z1", "x2", "y2", "z2")
 OF_RING = ("area", "side", "hole_of")  # what a ring has beside its cell's data
 SIDES = {0: "", 1: "above", -1: "below"}
@@ -208,7 +208,7 @@ def cell_data(cut: PlaneCut, cells: np.ndarray, others: tuple[str, ...] = OF_RIN
     """
     at = np.searchsorted(cut.cells, cells)
     listed = np.append(cut.cells, -1)[at] == cells
-    counts = np.where(listed[:, None], np.append(cut.counts, [[0, 0, 0, 0]], axis=0)[at], 0)
+    counts = np.where(listed[:, None], np.append(cut.counts, [[0] * len(COUNTS)], axis=0)[at], 0)
     data = {"cell": cells.astype(np.int64), **{name: counts[:, k] for k, name in enumerate(COUNTS)}, "defaulted": cut.defaulted_of(cells),
             "comparisons": cut.comparisons_of(cells)}
     own = {*data, *others}

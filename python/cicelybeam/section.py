@@ -7,9 +7,9 @@ from functools import cached_property
 import numpy as np
 
 from . import place
-from .cells import Cutter, Loops, Progress, cells_with_gaps
+from .cells import PINCHED, Cutter, Loops, Progress, cells_with_gaps, not_drawn
 from .jumps import JUMP, Jumps, find_jumps
-from .lost import Lost, lost_area
+from .lost import Lost, cut_alone, lost_area
 from .mesh import Block, Mesh, Polyhedra
 from .netarea import NetArea, net_area
 from .place import ABOVE, BELOW, Vector
@@ -19,12 +19,13 @@ from .shift import Drawn
 
 @dataclass(frozen=True)
 class Asked:
-    """What a cut was asked for: the plane as given, the tolerance and the mesh's own, and a distance along the unit normal."""
+    """What a cut was asked for: the plane as given, the tolerance and the mesh's own, the way, and a distance along the unit normal."""
 
     origin: Vector
     normal: Vector
     tol: float
     own: float
+    strict: bool = False
     shift: float = 0.0
 
 
@@ -53,7 +54,7 @@ class Section:
         self.sides = place.sides(mesh.points, self.near.origin, self.near.normal, asked.tol)
         # of each node, or None where all are: a sum tells quickly, but for one that overflows
         self.finite = None if np.isfinite(mesh.points.sum()) else np.isfinite(mesh.points).all(axis=1)
-        self.cutter = Cutter(mesh, self.near.origin, asked.normal, asked.tol, asked.own)
+        self.cutter = Cutter(mesh, self.near.origin, asked.normal, asked.tol, asked.own, asked.strict)
         self.reached = self._cut(leave_out, progress)
         self.loops: Loops = self.cutter.loops()
         self.rings: Rings = simple_rings(self.loops, self.tol)
@@ -107,15 +108,22 @@ class Section:
         return found if found.area > JUMP * self.net.area else Jumps([], 0.0)
 
     @cached_property
+    def pinched(self) -> np.ndarray:
+        """The cells with pinched edges, which are in the strict way alone."""
+        return self.loops.cells[self.loops.counts[:, PINCHED] > 0]
+
+    @cached_property
     def doubtful(self) -> np.ndarray:
         """The cells where something was not drawn."""
-        undrawn = self.loops.cells[(self.loops.counts[:, 2:] > 0).any(axis=1)]
+        undrawn = self.loops.cells[not_drawn(self.loops.counts) > 0]
         found = np.unique(np.concatenate([undrawn, self.reached.no_edge, self.reached.no_segment, self.reached.within]))
         return np.setdiff1d(found, self.reached.not_finite)
 
     @cached_property
     def lost(self) -> Lost:
-        return lost_area(self.mesh, self.near, self.asked.normal, self.tol, self.doubtful, self.reached.within, self.loops, self.rings)
+        pinched = np.setdiff1d(np.intersect1d(self.pinched, self.doubtful), self.reached.no_segment)
+        usual = cut_alone(self.mesh, self.near.origin, self.asked.normal, self.asked.tol, pinched)
+        return lost_area(self.mesh, self.near, self.asked.normal, self.tol, self.doubtful, self.reached.within, usual, self.loops, self.rings)
 
     def drawn(self, looked_at: int) -> Drawn:
         """How much is drawn. Where something is not drawn in more cells than are to be looked at, area counts as lost."""
@@ -123,4 +131,4 @@ class Section:
             return Drawn.NOT_ALL
         if not len(self.doubtful):
             return Drawn.ALL
-        return Drawn.AREA if len(self.doubtful) <= looked_at and not self.lost.area.any() else Drawn.NOT_ALL
+        return Drawn.AREA if len(self.doubtful) <= looked_at and not (self.lost.area.any() or self.lost.filled.any()) else Drawn.NOT_ALL

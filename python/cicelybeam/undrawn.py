@@ -8,6 +8,7 @@ import numpy as np
 
 from . import place
 from .line import LineCut
+from .cells import not_drawn
 from .mesh import mean
 from .plane import PlaneCut
 from .record import DefaultedCell, defaulted_in_words
@@ -44,6 +45,7 @@ def findings(cut: PlaneCut | LineCut) -> list[Finding]:
 def _of_plane(cut: PlaneCut) -> list[Finding]:
     record = cut.record
     found = [Finding(u.cell, u.type, f"area lost: {u.what}", u.lost_area, _middle(u.points)) for u in record.lost_cells]
+    found += [_plain(cut, cell, "a hole is filled: a polygon that bounds it or lies around it is pinched") for cell in record.filled_cells]
     if record.jump_area:
         found += [_plain(cut, cell, "the area jumps: a face that is not flat has a corner in the plane") for cell in record.jump_cells]
     found += [_plain(cut, cell, "a corner coordinate is not finite") for cell in record.not_finite]
@@ -105,7 +107,7 @@ def undrawn_edges(cut: PlaneCut) -> list[tuple[int, Pair]]:
     drawn = _drawn_edges(cut)
     space = cut.in_space()
     found = []
-    for row in np.flatnonzero(cut.counts[:, 2] + cut.counts[:, 3]).tolist():
+    for row in np.flatnonzero(not_drawn(cut.counts)).tolist():
         cell, (first, after) = int(cut.cells[row]), cut.cell_points[row].tolist()
         if cut.counts[row, 0] == 1:
             found.append((cell, (first, first + 1)))
@@ -127,7 +129,7 @@ def _nearest(points: np.ndarray, point: Point) -> int:
 def _drawn_edges(cut: PlaneCut) -> set[Pair]:
     """The edges of the rings of cells with edges that were not drawn."""
     found: set[Pair] = set()
-    for k in np.flatnonzero(np.isin(cut.polygon_cell, cut.cells[(cut.counts[:, 2] + cut.counts[:, 3]) > 0])):
+    for k in np.flatnonzero(np.isin(cut.polygon_cell, cut.cells[not_drawn(cut.counts) > 0])):
         ring = cut.nodes[cut.ends[k - 1] if k else 0 : cut.ends[k]].tolist()
         found.update((min(pair), max(pair)) for pair in zip(ring, ring[1:] + ring[:1]))
     return found

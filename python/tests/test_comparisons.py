@@ -409,7 +409,8 @@ def test_json():
     found = report.as_dict(cicelybeam.cut_plane(brick_and_tetra(), *MIDDLE))
     assert found["comparisons"] == 25 and found["most_comparisons"] == {"cell": 1, "type": "hexahedron", "comparisons": 16}
     assert [(row["cell"], row["listed"], row["comparisons"]) for row in found["by_cell"]] == [(0, 3, 9), (1, 4, 16)]
-    assert list(found["by_cell"][0]) == ["cell", "type", "group", "listed", "in_loops", "flat", "open", "defaulted", "comparisons", "area", "x", "y", "z"]
+    assert list(found["by_cell"][0]) == ["cell", "type", "group", "listed", "in_loops", "pinched", "flat", "open", "defaulted", "comparisons", "area", "x", "y",
+                                        "z"]
     assert sum("at most s(2s - 1) for s segments" in sentence for sentence in found["proved"]) == 1
     none = report.as_dict(cicelybeam.cut_plane(box(1), (0, 0, 7), (0, 0, 1)))
     assert (none["comparisons"], none["most_comparisons"], none["by_cell"]) == (0, None, [])
@@ -480,15 +481,16 @@ STUBS = "".join(f"void cicelybeam_{name}(void) {{}}\n" for name in (
 
 @pytest.mark.parametrize("older,words_told", [
     ("no sizes", "size_of_section; run python/build to link it again"),
-    ("no field", "struct cicelybeam_section has 36 bytes there, and 40 in this package; run python/build to link it again"),
+    ("comparisons", "struct cicelybeam_section has 40 bytes there, and 44 in this package; run python/build to link it again"),
+    ("pinched", "struct cicelybeam_section has 40 bytes there, and 44 in this package; run python/build to link it again"),
     ("today's", None),
 ])
 def test_a_library_without_the_field(path, tmp_path, older, words_told):
     """Its answers are shorter, and would be read at wrong places: it is not used."""
     header = (ROOT / "include" / "cicelybeam.h").read_text()
-    without = re.sub(r"\n *uint32_t comparisons;[^\n]*", "", header)
-    assert without != header
-    (tmp_path / "cicelybeam.h").write_text(without if older == "no field" else header)
+    without = re.sub(rf"\n *uint32_t {older};[^\n]*", "", header)
+    assert (without != header) == (older in ("comparisons", "pinched"))
+    (tmp_path / "cicelybeam.h").write_text(without)
     (tmp_path / "stubs.c").write_text(STUBS)
     subprocess.run(["gcc", "-shared", "-fPIC", "-I", tmp_path, *(["-Dsize_of_section=former"] if older == "no sizes" else []), "-o", tmp_path / "older.so",
                     ROOT / "python" / "loop.c", tmp_path / "stubs.c"], check=True)

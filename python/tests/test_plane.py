@@ -119,9 +119,9 @@ def test_counts_are_the_librarys(kind, origin, normal):
         numbers, nodes, ends = np.empty(144), np.empty(36, np.uint32), np.empty(12, np.uint32)
         s: Section = library().cicelybeam_plane(
             block.kind.number, cell.ctypes.data, cell.size, mesh.points.ctypes.data, mesh.points.size, o.ctypes.data, 3, n.ctypes.data, 3,
-            cut.record.tolerance, numbers.ctypes.data, 144, nodes.ctypes.data, 36, ends.ctypes.data, 12)
+            False, cut.record.tolerance, numbers.ctypes.data, 144, nodes.ctypes.data, 36, ends.ctypes.data, 12)
         if s.listed:
-            counts[k] = [s.listed, s.in_loops, s.flat, s.open]
+            counts[k] = [s.listed, s.in_loops, s.pinched, s.flat, s.open]
     assert counts == dict(zip(cut.cells.tolist(), cut.counts.tolist()))
 
 

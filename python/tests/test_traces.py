@@ -44,10 +44,10 @@ def gather_call(mesh, number, conn, origin, normal, tol, room=6 * 256) -> tuple[
     return told, numbers[: 4 * told.segments]
 
 
-def stitch_call(segments, tol) -> tuple[Section, np.ndarray, np.ndarray, np.ndarray]:
+def stitch_call(segments, tol, strict=False) -> tuple[Section, np.ndarray, np.ndarray, np.ndarray]:
     numbers, nodes, ends = np.empty(4 * 384), np.empty(384, np.uint32), np.empty(128, np.uint32)
-    s = library().cicelybeam_stitch(segments.ctypes.data, segments.size, tol, numbers.ctypes.data, numbers.size, nodes.ctypes.data, nodes.size,
-                                    ends.ctypes.data, ends.size)
+    s = library().cicelybeam_stitch(segments.ctypes.data, segments.size, strict, tol, numbers.ctypes.data, numbers.size, nodes.ctypes.data,
+                                    nodes.size, ends.ctypes.data, ends.size)
     return s, numbers[: 2 * s.points], nodes[: s.nodes], ends[: s.loops]
 
 
