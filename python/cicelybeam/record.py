@@ -211,11 +211,12 @@ class PlaneRecord:
         return " in its strict way, which draws no polygon that passes twice through a point," if self.strict else ""
 
     def _drawn_in_words(self) -> str:
-        kinds = [(self.pinched, "pinched"), (self.flat, "flat"), (self.open, "open")]
-        if not any(count for count, _ in kinds):
+        counts = {"pinched": self.pinched, "flat": self.flat, "open": self.open}
+        if not any(counts.values()):
             return ", and no listed edge is left undrawn"
-        edges = " and ".join(number(count, f"{kind} edge") for count, kind in kinds if count)
-        one = sum(count for count, _ in kinds) == 1
+        *most, last = (number(count, f"{kind} edge") for kind, count in counts.items() if count)
+        edges = f"{', '.join(most)}{' and ' if most else ''}{last}"
+        one = sum(counts.values()) == 1
         touching = sum(cell.touching and cell.not_drawn > 0 for cell in self.undrawn)  # of others it is not known, or area is lost
         return (f", and {edges} in {number(self.with_undrawn, 'cell')} {'is' if one else 'are'} not drawn"
                 + (f", which {'bounds' if one else 'bound'} no area" if touching == self.with_undrawn else ""))

@@ -7,8 +7,8 @@ from dataclasses import asdict, dataclass
 import numpy as np
 
 from . import place
-from .line import LineCut
 from .cells import not_drawn
+from .line import LineCut
 from .mesh import mean
 from .plane import PlaneCut
 from .record import DefaultedCell, defaulted_in_words
