@@ -12,6 +12,7 @@ were filled: that much the area is too large.
 from __future__ import annotations
 
 from dataclasses import dataclass
+from typing import TYPE_CHECKING
 
 import numpy as np
 from shapely.geometry import MultiPoint, Polygon
@@ -23,6 +24,9 @@ from .netarea import near_bounds, ring_shapes
 from .place import Frame, Vector, moved
 from .rings import Rings, simple_rings
 from .shapes import less, neighbours, union
+
+if TYPE_CHECKING:
+    from .section import Reached
 
 LEVELS = 11  # distances of 4, 16, 64 .. tolerances
 GROWTH = 4
@@ -58,44 +62,45 @@ class Lost:
     filled: np.ndarray
 
 
-def lost_area(mesh: Mesh, frame: Frame, normal: Vector, tol: float, cells: np.ndarray, flat: np.ndarray, usual: Near, loops: Loops,
+def lost_area(mesh: Mesh, frame: Frame, normal: Vector, tol: float, cells: np.ndarray, reached: Reached, usual: Near, loops: Loops,
               rings: Rings) -> Lost:
-    """Of these cells, sorted; those in `flat` lie wholly within the tolerance, so that their corners stand for their section; `usual`
-    has those with pinched edges cut in the plane itself."""
-    within = {*flat.tolist()}
+    """Of these cells, sorted. For those that lie wholly within the tolerance their corners stand for their section. `usual` has those
+    with pinched edges cut in the plane itself."""
+    within = {*reached.within.tolist()}
     if not len(cells):
         return Lost(cells, np.zeros(0), 0.0, np.zeros(0))
-    known = {*usual.cells[usual.whole].tolist()}
     found = _Estimate(mesh, frame, normal, tol, cells)
+    known = {*usual.cells[usual.whole & ~(np.isin(usual.cells, reached.no_segment) & found.beyond(usual.area, usual.cells))].tolist()}
     drawn = np.zeros(len(cells))
     own = np.isin(rings.cell, cells)
     np.add.at(drawn, np.searchsorted(cells, rings.cell[own]), rings.area[own])
-    doubtful = np.flatnonzero(~(found.area - drawn <= tol * found.size) | (found.level < 0).any(axis=0) | np.isin(cells, [*within, *known]))
+    doubtful = np.flatnonzero(found.beyond(drawn, cells) | (found.level < 0).any(axis=0) | np.isin(cells, [*within, *known]))
     shapes = {int(k): (usual.shape(cells[k]), None) if cells[k] in known else found.shapes(int(k), cells[k] in within, loops) for k in doubtful}
     area, filled, pieces = np.zeros(len(cells)), np.zeros(len(cells)), []
-    covered = _Drawn(rings, [shape for pair in shapes.values() for shape in pair])
+    holes = {cell: less(_shape(rings, cell), [usual.shape(cell)]) for cell in known}  # drawn as if they were filled
+    covered = _Drawn(rings, [shape for pair in shapes.values() for shape in pair], holes)
     for k, (at, further) in shapes.items():
         piece = covered.less(at)
         missing = piece.area if further is None else (GROWTH * piece.area - covered.less(further).area) / (GROWTH - 1)
         if missing > (1e-9 * at.area if cells[k] in within else tol * at.length / 2):
             area[k] = missing
             pieces.append(piece)
-        beyond = less(_shape(rings, cells[k]), [at]).area if cells[k] in known else 0.0
-        if beyond > tol * at.length / 2:
-            filled[k] = beyond
+        if cells[k] in holes and holes[cells[k]].area > tol * at.length / 2:
+            filled[k] = holes[cells[k]].area
     return Lost(cells, area, float(union(pieces).area) if pieces else 0.0, filled)
 
 
 class _Drawn:
-    """What the plane's own rings cover near some shapes."""
+    """What the plane's own rings cover near some shapes, less the holes of cells that are drawn as if they were filled."""
 
-    def __init__(self, rings: Rings, shapes: list[BaseGeometry | None]) -> None:
+    def __init__(self, rings: Rings, shapes: list[BaseGeometry | None], holes: dict[int, BaseGeometry]) -> None:
         boxes = [shape.bounds for shape in shapes if shape is not None and not shape.is_empty]
         self.near = None
         if boxes and len(rings.ends):
             low, high = np.min(boxes, axis=0)[:2], np.max(boxes, axis=0)[2:]
             chosen = near_bounds(rings, np.arange(len(rings.ends)), (*low, *high))
-            self.near = neighbours([shape for _, shape in ring_shapes(rings, chosen)])
+            cells = rings.cell.tolist()
+            self.near = neighbours([less(shape, [holes[cells[k]]]) if cells[k] in holes else shape for k, shape in ring_shapes(rings, chosen)])
 
     def less(self, shape: BaseGeometry) -> BaseGeometry:
         """The part of a shape that is not drawn."""
@@ -123,6 +128,11 @@ class _Estimate:
             self.area[new] = np.fmax(self.area[new], back[new])
             if (self.level[side] >= 0).all():
                 return
+
+    def beyond(self, area: np.ndarray, cells: np.ndarray) -> np.ndarray:
+        """For each of these cells: whether it has more than this area, or it is not known."""
+        at = np.searchsorted(self.cells, cells)
+        return ~(self.area[at] - area <= self.tol * self.size[at])
 
     def cut(self, side: int, level: int) -> Near:
         if (side, level) not in self.cuts:

@@ -461,8 +461,8 @@ def _undrawn(cut: PlaneCut, section: Section) -> list[UndrawnCell]:
                                              section.lost.filled.tolist()):
         listed = row < len(cut.cells) and cut.cells[row] == cell
         counts = cut.counts[row].tolist() if listed else [0] * len(COUNTS)
-        what = ("no edge" if cell in no_edge else "a face without a segment" if cell in no_segment
-                else "all corners within the tolerance" if cell in within else "pinched edges" if cell in pinched else "edges not drawn")
+        what = ("no edge" if cell in no_edge else "pinched edges" if cell in pinched else "a face without a segment" if cell in no_segment
+                else "all corners within the tolerance" if cell in within else "edges not drawn")
         points = space[slice(*cut.cell_points[row])] if listed else cut.mesh.middle(cell)[None]
         found.append(UndrawnCell(cell, str(name), *counts, LOST if area else FILLED if filled else TOUCHING, what, area, points.tolist()))
     return found

@@ -121,9 +121,9 @@ class Section:
 
     @cached_property
     def lost(self) -> Lost:
-        pinched = np.setdiff1d(np.intersect1d(self.pinched, self.doubtful), self.reached.no_segment)
+        pinched = np.intersect1d(self.pinched, self.doubtful)
         usual = cut_alone(self.mesh, self.near.origin, self.asked.normal, self.asked.tol, pinched)
-        return lost_area(self.mesh, self.near, self.asked.normal, self.tol, self.doubtful, self.reached.within, usual, self.loops, self.rings)
+        return lost_area(self.mesh, self.near, self.asked.normal, self.tol, self.doubtful, self.reached, usual, self.loops, self.rings)
 
     def drawn(self, looked_at: int) -> Drawn:
         """How much is drawn. Where something is not drawn in more cells than are to be looked at, area counts as lost."""

@@ -243,6 +243,28 @@ def test_a_filled_hole_is_told():
     assert "hole filled: 1 cell" in legend_of(found) and "about 5 of it in filled holes" in figure_title(found)
 
 
+def test_a_cell_in_a_filled_hole_is_lost():
+    """A cell in the hole is pinched as well: what is drawn over it does not stand for it."""
+    inner, outer = walls(square(0.5, 0.5, 0.5), square(1, 1, 1.5)), walls(*PINCHED_HOLE)
+    cells = [(outer.cells[0].type, outer.cells[0].data), (inner.cells[0].type, [[24 + np.array(face) for face in inner.cells[0].data[0]]])]
+    usual, strict = both(meshio.Mesh(np.concatenate([outer.points, inner.points]), cells))
+    assert usual.record.area == pytest.approx(33.5) and usual.record.reasons == []
+    assert [strict.record.area, strict.record.lost_area, strict.record.filled_area] == pytest.approx([36, 2.5, 5])
+    assert [cell.reason for cell in strict.record.undrawn] == ["hole filled", "area lost"]
+
+
+def test_twisted_bricks():
+    """The area drawn, what is lost and what is filled make up what they do in the usual way; and the edges not drawn are those counted."""
+    seen = []
+    for seed in range(300):
+        usual, strict = (cut.record for cut in both(twisted(seed), (0, 0, 0)))
+        if strict.pinched:
+            assert strict.area + strict.lost_area - strict.filled_area == pytest.approx(usual.area + usual.lost_area, abs=1e-9), seed
+            assert all(cell.what == "pinched edges" for cell in strict.undrawn) and usual.pinched == 0
+            seen += [name for name in ("in_loops", "flat", "open", "filled_area", "crossed_face_without_segment") if getattr(strict, name)]
+    assert len(seen) > 3, seen
+
+
 def test_a_walk_with_no_area_is_lost_as_in_the_usual_way():
     """There it is flat, so the usual way does not tell its area either, and it is estimated as of any cell with flat edges."""
     usual, strict = both(walls(*ALIKE))
