@@ -62,7 +62,7 @@ class Lost:
     filled: np.ndarray
 
 
-def lost_area(mesh: Mesh, frame: Frame, normal: Vector, tol: float, cells: np.ndarray, reached: Reached, usual: Near, loops: Loops,
+def lost_area(mesh: Mesh, frame: Frame, normal: Vector, tol: float, cells: np.ndarray, reached: Reached, usual: Near | None, loops: Loops,
               rings: Rings) -> Lost:
     """Of these cells, sorted. For those that lie wholly within the tolerance their corners stand for their section. `usual` has those
     with pinched edges cut in the plane itself."""
@@ -70,14 +70,14 @@ def lost_area(mesh: Mesh, frame: Frame, normal: Vector, tol: float, cells: np.nd
     if not len(cells):
         return Lost(cells, np.zeros(0), 0.0, np.zeros(0))
     found = _Estimate(mesh, frame, normal, tol, cells)
-    known = {*usual.cells[usual.whole & ~(np.isin(usual.cells, reached.no_segment) & found.beyond(usual.area, usual.cells))].tolist()}
+    known = found.drawn_whole(usual, reached.no_segment) if usual else {}
     drawn = np.zeros(len(cells))
     own = np.isin(rings.cell, cells)
     np.add.at(drawn, np.searchsorted(cells, rings.cell[own]), rings.area[own])
     doubtful = np.flatnonzero(found.beyond(drawn, cells) | (found.level < 0).any(axis=0) | np.isin(cells, [*within, *known]))
-    shapes = {int(k): (usual.shape(cells[k]), None) if cells[k] in known else found.shapes(int(k), cells[k] in within, loops) for k in doubtful}
+    shapes = {int(k): (known[cells[k]], None) if cells[k] in known else found.shapes(int(k), cells[k] in within, loops) for k in doubtful}
     area, filled, pieces = np.zeros(len(cells)), np.zeros(len(cells)), []
-    holes = {cell: less(_shape(rings, cell), [usual.shape(cell)]) for cell in known}  # drawn as if they were filled
+    holes = {cell: less(_shape(rings, cell), [shape]) for cell, shape in known.items()}  # drawn as if they were filled
     covered = _Drawn(rings, [shape for pair in shapes.values() for shape in pair], holes)
     for k, (at, further) in shapes.items():
         piece = covered.less(at)
@@ -133,6 +133,11 @@ class _Estimate:
         """For each of these cells: whether it has more than this area, or it is not known."""
         at = np.searchsorted(self.cells, cells)
         return ~(self.area[at] - area <= self.tol * self.size[at])
+
+    def drawn_whole(self, usual: Near, gaps: np.ndarray) -> dict[int, BaseGeometry]:
+        """What the usual way draws of the cells that it draws whole: of those with a gap, where they have no more than that."""
+        whole = usual.whole & ~(np.isin(usual.cells, gaps) & self.beyond(usual.area, usual.cells))
+        return {cell: usual.shape(cell) for cell in usual.cells[whole].tolist()}
 
     def cut(self, side: int, level: int) -> Near:
         if (side, level) not in self.cuts:

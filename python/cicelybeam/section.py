@@ -122,7 +122,7 @@ class Section:
     @cached_property
     def lost(self) -> Lost:
         pinched = np.intersect1d(self.pinched, self.doubtful)
-        usual = cut_alone(self.mesh, self.near.origin, self.asked.normal, self.asked.tol, pinched)
+        usual = cut_alone(self.mesh, self.near.origin, self.asked.normal, self.asked.tol, pinched) if len(pinched) else None
         return lost_area(self.mesh, self.near, self.asked.normal, self.tol, self.doubtful, self.reached, usual, self.loops, self.rings)
 
     def drawn(self, looked_at: int) -> Drawn:

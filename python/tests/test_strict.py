@@ -45,6 +45,17 @@ def walls(*outlines, top: float = 1.0) -> meshio.Mesh:
     return meshio.Mesh(np.array(points, dtype=float), [(f"polyhedron{len(points)}", [faces])])
 
 
+def waist(*outlines) -> meshio.Mesh:
+    """Walls as above, of which those over the last outline lean away from the others above z = 0.5 and below it."""
+    points, faces = [], []
+    for outline in outlines:
+        first, n = len(points), len(outline)
+        points += [(x + away, y + away, z) for x, y in outline for z, away in ((0, outline is outlines[-1]), (0.5, 0), (1, outline is outlines[-1]))]
+        faces += [first + np.array([3 * k + up, 3 * after + up, 3 * after + up + 1, 3 * k + up + 1])
+                  for k, after in enumerate([*range(1, n), 0]) for up in (0, 1)]
+    return meshio.Mesh(np.array(points, dtype=float), [(f"polyhedron{len(points)}", [faces])])
+
+
 def together(*meshes: meshio.Mesh) -> meshio.Mesh:
     """Polyhedra side by side, 20 apart."""
     first = np.cumsum([0, *(len(mesh.points) for mesh in meshes)])
@@ -228,6 +239,15 @@ def test_area_and_what_is_wrong_with_it(outlines, area, lost, filled, tol, top):
     assert (usual.record.filled_area, usual.record.filled_cells) == (0, []) and usual.record.nothing_lost
 
 
+def test_a_tolerance_below_the_meshs_own():
+    """What the usual way draws is that by the tolerance given: by the mesh's own, which a node far away makes large, a small part is flat."""
+    mesh = walls(*TWO, [(5, 0), (5 + 1.1e-5, 0), (5 + 0.55e-5, 0.95e-5)])
+    mesh.points = np.concatenate([mesh.points, [[1e7, 0, 0]]])
+    usual, strict = both(mesh, *MIDDLE, 1e-9)
+    assert usual.counts.tolist() == [[11, 11, 0, 0, 0]] and cicelybeam.cut_plane(mesh, *MIDDLE).counts.tolist() == [[11, 8, 0, 3, 0]]
+    assert strict.counts.tolist() == [[11, 3, 8, 0, 0]] and strict.record.lost_area == pytest.approx(5, rel=1e-6)
+
+
 def test_a_filled_hole_is_told():
     cut = cicelybeam.cut_plane(walls(*PINCHED_HOLE), *MIDDLE, strict=True)
     record = cut.record
@@ -293,9 +313,22 @@ def test_shift():
     assert record.shift and record.strict and record.all_drawn and record.reasons == [] and not record.pinched
     there = cicelybeam.cut_plane(brick(SADDLE), (0, 0, record.shift), (0, 0, 1)).record
     assert record.area == there.area > 0
+    apart = cicelybeam.cut_plane(waist(*TWO), *MIDDLE, strict=True, shift=True).record
+    assert apart.shift and not apart.pinched and apart.reasons == [] and apart.area == pytest.approx(5)
     none = cicelybeam.cut_plane(walls(*TWO), *MIDDLE, strict=True, shift=True).record
     assert none.shift == 0 and none.shift_that_draws_all is None and none.pinched == 8
     assert cicelybeam.cut_plane(walls(*TWO), *MIDDLE, shift=True).record.shift == 0  # nothing is looked for
+
+
+def test_shift_to_the_area_without_what_is_filled():
+    """A box ends at the plane: the area asked for is found below, and not above, where everything is drawn as well."""
+    ends = walls(square(0, 0, 3))
+    ends.points[:, 2] /= 2
+    mesh = together(waist(*PINCHED_HOLE), ends)
+    record = cicelybeam.cut_plane(mesh, *MIDDLE, strict=True).record
+    assert [record.area, record.lost_area, record.filled_area] == pytest.approx([36 + 9, 0, 5])
+    shifted = cicelybeam.cut_plane(mesh, *MIDDLE, strict=True, shift=True).record
+    assert shifted.shift < 0 and shifted.area == pytest.approx(31 + 9) and shifted.reasons == []
 
 
 def test_a_plane_that_fills_a_hole_does_not_draw_all():
