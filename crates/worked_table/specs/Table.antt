@@ -151,8 +151,17 @@ f3 = fin false 3 (pos 0)
 abbrev f4 : Float
 f4 = fin false 1 (pos 2)
 
+abbrev f9 : Float
+f9 = fin false 9 (pos 0)
+
+abbrev f10 : Float
+f10 = fin false 5 (pos 1)
+
 abbrev minus_two : Float
 minus_two = fin true 1 (pos 1)
+
+abbrev minus_four : Float
+minus_four = fin true 1 (pos 2)
 
 -- 2^-1074 and its opposite
 abbrev tiny : Float
@@ -196,6 +205,19 @@ bow_tie = pt minus_two f1 ∷ O ∷ pt f2 f1 ∷ pt f2 minus_one ∷ O ∷ pt mi
 
 abbrev bow_points : List Vector
 bow_points = pt minus_two f1 ∷ O ∷ pt f2 f1 ∷ pt f2 minus_one ∷ pt minus_two minus_one ∷ []
+
+-- the same with a larger left part, and a triangle apart
+abbrev tie_with_area : List Vector
+tie_with_area = pt minus_four f2 ∷ O ∷ pt f2 f1 ∷ pt f2 minus_one ∷ O ∷ pt minus_four minus_two ∷ pt minus_four f2 ∷ []
+
+abbrev triangle_apart : List Vector
+triangle_apart = pt f9 f0 ∷ pt f10 f0 ∷ pt f9 f1 ∷ pt f9 f0 ∷ []
+
+abbrev tie_points : List Vector
+tie_points = pt minus_four f2 ∷ O ∷ pt f2 f1 ∷ pt f2 minus_one ∷ pt minus_four minus_two ∷ pt f9 f0 ∷ pt f10 f0 ∷ pt f9 f1 ∷ []
+
+abbrev tie_walks : List Shown
+tie_walks = closed (0 ∷ 1 ∷ 3 ∷ 2 ∷ 1 ∷ 4 ∷ []) (fin true 3 (pos 1)) ∷ closed (5 ∷ 6 ∷ 7 ∷ []) half ∷ []
 
 -- the sides of the unit square, as the faces of the brick give them
 abbrev sides : List Seg
@@ -253,6 +275,10 @@ table =
     ∷ case (compare (along (O ∷ O ∷ [])) f0) (counted 1)
     ∷ case (compare (along (O ∷ pt f3 f0 ∷ []) ++ along (pt f2 f0 ∷ pt f0 f4 ∷ [])) f2) (counted 4)
     ∷ case (compare_plane 14 brick cube (level half) up) (counted 16)
+    -- 18
+    ∷ case_by_way (stitch (along tie_with_area ++ along triangle_apart) f0)
+    (stitched (answer tie_points ((4 ∷ 1 ∷ 2 ∷ 3 ∷ 1 ∷ 0 ∷ []) ∷ (5 ∷ 6 ∷ 7 ∷ []) ∷ []) 9 9 0 0) tie_walks)
+    (stitched (answer_with tie_points ((5 ∷ 6 ∷ 7 ∷ []) ∷ []) 9 3 6 0 0) tie_walks)
     ∷ []
 
 -- the definitions answer each case as docs/RULES.md does, in the usual way and in the strict one
