@@ -15,7 +15,15 @@ fn main() -> Result<(), Refusal> {
     for (number, [a, b]) in gathered.segments.iter().enumerate() {
         println!("segment {number}: {} {} to {} {}", a[0], a[1], b[0], b[1]);
     }
-    let section = cut_by_plane(SpaceType::Hex8, &NODES, &COORDS, &origin, &normal, tol)?;
+    let section = cut_by_plane(
+        SpaceType::Hex8,
+        &NODES,
+        &COORDS,
+        &origin,
+        &normal,
+        false,
+        tol,
+    )?;
     for (number, [x, y]) in section.points.iter().enumerate() {
         println!("point {number}: {x} {y}");
     }

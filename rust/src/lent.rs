@@ -53,12 +53,15 @@ pub struct WrittenLine {
 }
 
 /// A space cell cut by a plane, into buffers. See [`crate::cut_by_plane`].
+// One argument for each of the header's lists, and the buffers.
+#[allow(clippy::too_many_arguments)]
 pub fn cut_by_plane(
     number: u8,
     conn: &[u64],
     coords: &[f64],
     origin: &[f64],
     normal: &[f64],
+    strict: bool,
     tol: f64,
     into: Buffers<'_>,
 ) -> Result<Written, Refusal> {
@@ -68,7 +71,7 @@ pub fn cut_by_plane(
         ends,
     } = into;
     written(linked::plane(
-        number, conn, coords, origin, normal, tol, numbers, nodes, ends,
+        number, conn, coords, origin, normal, strict, tol, numbers, nodes, ends,
     ))
 }
 
@@ -89,9 +92,15 @@ pub fn gather(
 }
 
 /// Segments stitched, four numbers each, into buffers. See [`crate::stitch`].
-pub fn stitch(segments: &[f64], tol: f64, into: Buffers<'_>) -> Result<Written, Refusal> {
+pub fn stitch(
+    segments: &[f64],
+    strict: bool,
+    tol: f64,
+    into: Buffers<'_>,
+) -> Result<Written, Refusal> {
     written(linked::stitch(
         segments,
+        strict,
         tol,
         into.numbers,
         into.nodes,
@@ -158,6 +167,7 @@ fn written(found: linked::Section) -> Result<Written, Refusal> {
         edges: Edges {
             listed: found.listed,
             in_loops: found.in_loops,
+            pinched: found.pinched,
             flat: found.flat,
             open: found.open,
         },

@@ -14,7 +14,8 @@
 //! ];
 //! let tol = tolerance_in_space(&coords)?;
 //! let nodes = [0, 1, 2, 3, 4, 5, 6, 7];
-//! let section = cut_by_plane(SpaceType::Hex8, &nodes, &coords, &[0., 0., 0.5], &[0., 0., 1.], tol)?;
+//! let (origin, normal) = ([0., 0., 0.5], [0., 0., 1.]);
+//! let section = cut_by_plane(SpaceType::Hex8, &nodes, &coords, &origin, &normal, false, tol)?;
 //!
 //! assert_eq!(section.points, [[0., 0.], [1., 0.], [1., 1.], [0., 1.]]);
 //! assert_eq!(section.loops().collect::<Vec<_>>(), [[0, 1, 2, 3]]);
@@ -24,6 +25,29 @@
 //!
 //! What is proved of the functions, and what is not, stands in the repository's docs/CLAIMS.md. This crate is
 //! not proved; it is thin, and its only unsafe code is in `src/linked.rs`.
+//!
+//! # The strict way
+//!
+//! [`cut_by_plane`] and [`stitch`] take `strict`: `false` is the usual way, `true` the strict one, for tools that reject a
+//! polygon that passes twice through one point. In the usual way such a walk is a loop or flat as any other. In the
+//! strict way it is pinched, whatever its area: it is not returned, and its edges are counted as [`Edges::pinched`], so
+//! its area is missing from that of the polygons. The nodes of a loop are then all different. The loops are the usual ones
+//! without those that pass a point twice, in the same order, over the same points; refusals, the points, `listed`, `open`,
+//! `defaulted` and `comparisons` do not depend on the way. Cuts by a line use the usual way.
+//!
+//! ```
+//! use cicelybeam::stitch;
+//!
+//! // a triangle of area 4 and one of area 1, which share the corner (0, 0): one walk, which passes it twice
+//! let left = [[[-2., 2.], [0., 0.]], [[-2., -2.], [-2., 2.]], [[0., 0.], [-2., -2.]]];
+//! let right = [[[0., 0.], [1., -1.]], [[1., -1.], [1., 1.]], [[1., 1.], [0., 0.]]];
+//! let touching = [left, right].concat();
+//! let [usual, strict] = [stitch(&touching, false, 0.)?, stitch(&touching, true, 0.)?];
+//! assert_eq!((usual.loops().count(), usual.edges.in_loops, usual.edges.pinched), (1, 6, 0));
+//! assert_eq!((strict.loops().count(), strict.edges.in_loops, strict.edges.pinched), (0, 0, 6));
+//! assert!(usual.edges.all_drawn() && !strict.edges.all_drawn());
+//! # Ok::<(), cicelybeam::Refusal>(())
+//! ```
 //!
 //! # Crossings in the middle by default
 //!
@@ -48,10 +72,10 @@
 //!
 //! let triangle = [[[0., 0.], [0., 1.]], [[0., 1.], [1., 0.]], [[1., 0.], [0., 0.]]];
 //! // one number an end: the first has no point to be compared with, the last is the first point again
-//! assert_eq!(stitch(&triangle, 0.)?.comparisons, [0, 1, 2, 2, 3, 1].iter().sum());
+//! assert_eq!(stitch(&triangle, false, 0.)?.comparisons, [0, 1, 2, 2, 3, 1].iter().sum());
 //! // nothing is near with NaN, and each end after the first is compared once where all are one point
-//! assert_eq!(stitch(&triangle, f64::NAN)?.comparisons, 3 * (2 * 3 - 1));
-//! assert_eq!(stitch(&triangle, f64::INFINITY)?.comparisons, 2 * 3 - 1);
+//! assert_eq!(stitch(&triangle, false, f64::NAN)?.comparisons, 3 * (2 * 3 - 1));
+//! assert_eq!(stitch(&triangle, false, f64::INFINITY)?.comparisons, 2 * 3 - 1);
 //! # Ok::<(), cicelybeam::Refusal>(())
 //! ```
 #![deny(missing_docs)]
@@ -77,13 +101,14 @@ pub const MOST_SEGMENTS: usize = 384;
 ///
 /// `tol` is the distance up to which a point counts as on the plane, and two points as one: usually
 /// [`tolerance_in_space`] of the mesh. Any number is taken. With less than that, a crossing that was rounded
-/// may not count as on the plane, and its edge is then not found.
+/// may not count as on the plane, and its edge is then not found. `strict` chooses [the way](crate#the-strict-way).
 ///
 /// ```
 /// use cicelybeam::{cut_by_plane, Refusal, SpaceType};
 ///
 /// let coords = [0., 0., 0., 1., 0., 0., 0., 1., 0., 0., 0., 1.];
-/// let cut = |normal| cut_by_plane(SpaceType::Tet4, &[0, 1, 2, 3], &coords, &[0., 0., 0.25], normal, 0.);
+/// let origin = [0., 0., 0.25];
+/// let cut = |normal| cut_by_plane(SpaceType::Tet4, &[0, 1, 2, 3], &coords, &origin, normal, false, 0.);
 /// assert_eq!(cut(&[0., 0., 1.])?.loops().count(), 1);
 /// assert_eq!(cut(&[0., 0., 0.]), Err(Refusal::NoDirection));
 /// # Ok::<(), Refusal>(())
@@ -94,19 +119,29 @@ pub fn cut_by_plane(
     coords: &[f64],
     origin: &[f64],
     normal: &[f64],
+    strict: bool,
     tol: f64,
 ) -> Result<Section, Refusal> {
     let corners = cell.face_corners(conn.len());
     let room = [3 * corners, 3 * corners / 2, corners / 2];
     section::filled(room, |into| {
-        lent::cut_by_plane(cell.number(), conn, coords, origin, normal, tol, into)
+        lent::cut_by_plane(
+            cell.number(),
+            conn,
+            coords,
+            origin,
+            normal,
+            strict,
+            tol,
+            into,
+        )
     })
 }
 
 /// The segments that [`cut_by_plane`] stitches, before they are stitched: those of each face, faces in their order,
 /// in the plane's own coordinates.
 ///
-/// [`stitch`] of them with the same `tol` gives what [`cut_by_plane`] gives but for `defaulted`, which is told here:
+/// [`stitch`] of them with the same `strict` and `tol` gives what [`cut_by_plane`] gives but for `defaulted`, which is told here:
 /// stitching computes no crossing. A face alone can be handed over as a [`SpaceType::Phed`] of one face; a cell's
 /// segments are those of its faces, in their order, and its `defaulted` is their sum.
 ///
@@ -117,8 +152,8 @@ pub fn cut_by_plane(
 /// let (nodes, origin, normal) = ([0, 1, 2, 3], [0., 0., 0.25], [0., 0., 1.]);
 /// let gathered = gather(SpaceType::Tet4, &nodes, &coords, &origin, &normal, 0.)?;
 /// assert_eq!(gathered.segments.len(), 3);
-/// let section = cut_by_plane(SpaceType::Tet4, &nodes, &coords, &origin, &normal, 0.)?;
-/// let stitched = stitch(&gathered.segments, 0.)?;
+/// let section = cut_by_plane(SpaceType::Tet4, &nodes, &coords, &origin, &normal, false, 0.)?;
+/// let stitched = stitch(&gathered.segments, false, 0.)?;
 /// assert_eq!(Section { defaulted: gathered.defaulted, ..stitched }, section);
 /// # Ok::<(), cicelybeam::Refusal>(())
 /// ```
@@ -138,7 +173,7 @@ pub fn gather(
 
 /// The part of the line through `origin` with this direction that lies in a space cell, as segments.
 ///
-/// The cell is cut by a plane that holds the line, and the line cuts the loops of that section. Flat and open
+/// The cell is cut by a plane that holds the line, in the usual way, and the line cuts the loops of that section. Flat and open
 /// pieces of the section are dropped, and nothing tells of it: to know, [`cut_by_plane`] by a plane that holds the
 /// line. `defaulted` has both: the crossings of that plane cut, and those made where the line cuts its loops.
 ///
@@ -225,20 +260,20 @@ pub fn cut_plane_cell_by_direction(
 }
 
 /// The closed polygons that segments in the plane form; at most [`MOST_SEGMENTS`]. No crossing is computed, so
-/// `defaulted` is 0.
+/// `defaulted` is 0. `strict` chooses [the way](crate#the-strict-way).
 ///
 /// ```
 /// let open = [[[0., 0.], [0., 1.]], [[0., 1.], [1., 0.]]];
-/// let section = cicelybeam::stitch(&open, 0.)?;
+/// let section = cicelybeam::stitch(&open, false, 0.)?;
 /// assert_eq!(section.loops().count(), 0);
 /// assert_eq!((section.edges.listed, section.edges.open), (2, 2));
 /// # Ok::<(), cicelybeam::Refusal>(())
 /// ```
-pub fn stitch(segments: &[[[f64; 2]; 2]], tol: f64) -> Result<Section, Refusal> {
+pub fn stitch(segments: &[[[f64; 2]; 2]], strict: bool, tol: f64) -> Result<Section, Refusal> {
     let most = segments.len().min(MOST_SEGMENTS);
     let numbers = segments.as_flattened().as_flattened();
     section::filled([2 * most, most, most / 3], |into| {
-        lent::stitch(numbers, tol, into)
+        lent::stitch(numbers, strict, tol, into)
     })
 }
 

@@ -16,6 +16,7 @@ pub struct Section {
     pub loops: u32,
     pub listed: u32,
     pub in_loops: u32,
+    pub pinched: u32,
     pub flat: u32,
     pub open: u32,
     pub defaulted: u32,
@@ -30,12 +31,13 @@ impl Section {
             self.loops,
             self.listed,
             self.in_loops,
+            self.pinched,
             self.flat,
             self.open,
             self.defaulted,
             self.comparisons,
         ];
-        told == [0; 9]
+        told == [0; 10]
     }
 }
 
@@ -85,6 +87,7 @@ extern "C" {
         origin_len: usize,
         normal: *const f64,
         normal_len: usize,
+        strict: u8,
         tol: f64,
         numbers: *mut f64,
         numbers_len: usize,
@@ -152,6 +155,7 @@ extern "C" {
     fn cicelybeam_stitch(
         segments: *const f64,
         segments_len: usize,
+        strict: u8,
         tol: f64,
         numbers: *mut f64,
         numbers_len: usize,
@@ -171,6 +175,7 @@ pub fn plane(
     coords: &[f64],
     origin: &[f64],
     normal: &[f64],
+    strict: bool,
     tol: f64,
     numbers: &mut [f64],
     nodes: &mut [u32],
@@ -188,6 +193,7 @@ pub fn plane(
             origin.len(),
             normal.as_ptr(),
             normal.len(),
+            u8::from(strict),
             tol,
             numbers.as_mut_ptr(),
             numbers.len(),
@@ -245,6 +251,7 @@ pub fn segments(
 
 pub fn stitch(
     segments: &[f64],
+    strict: bool,
     tol: f64,
     numbers: &mut [f64],
     nodes: &mut [u32],
@@ -255,6 +262,7 @@ pub fn stitch(
         cicelybeam_stitch(
             segments.as_ptr(),
             segments.len(),
+            u8::from(strict),
             tol,
             numbers.as_mut_ptr(),
             numbers.len(),

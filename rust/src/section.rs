@@ -29,7 +29,7 @@ pub struct Line<const D: usize> {
     pub defaulted: u32,
 }
 
-/// The listed edges of a cut, counted: `listed` is always the sum of the other three.
+/// The listed edges of a cut, counted: `listed` is always the sum of the other four.
 ///
 /// A listed edge joins two different points, and no two of them join the same two. None is in two loops, or twice
 /// in one. A segment whose ends are one point within the tolerance is no edge, and one that repeats an edge adds none.
@@ -39,6 +39,9 @@ pub struct Edges {
     pub listed: u32,
     /// Those in loops, which are drawn.
     pub in_loops: u32,
+    /// Those that close and pass a point twice, whatever their area, which are not drawn: in
+    /// [the strict way](crate#the-strict-way), and 0 in the usual one.
+    pub pinched: u32,
     /// Those that close without an area above the squared tolerance, which are not drawn.
     pub flat: u32,
     /// Those that do not close, which are not drawn.
@@ -48,14 +51,15 @@ pub struct Edges {
 impl Edges {
     /// Whether every listed edge is drawn.
     pub fn all_drawn(&self) -> bool {
-        self.flat == 0 && self.open == 0
+        self.pinched == 0 && self.flat == 0 && self.open == 0
     }
 }
 
 impl Section {
     /// The nodes of each loop, at least three, in the order walked, or all in reverse where the walk's rounded area
     /// is negative. So the area of a loop is positive but for rounding: a very thin one can have a negative rounded
-    /// area both ways. A loop may meet itself at a point, and then a part of it may run clockwise.
+    /// area both ways. In the usual way a loop may pass a point twice, and then a part of it may run clockwise; in
+    /// [the strict way](crate#the-strict-way) its nodes are all different.
     pub fn loops(&self) -> impl Iterator<Item = &[u32]> {
         let starts = std::iter::once(&0).chain(&self.ends);
         starts

@@ -7,7 +7,7 @@ const INFINITY: f64 = f64::INFINITY;
 const NAN: f64 = f64::NAN;
 
 fn comparisons(segments: &[[[f64; 2]; 2]], tol: f64) -> u32 {
-    stitch(segments, tol).unwrap().comparisons
+    stitch(segments, false, tol).unwrap().comparisons
 }
 
 /// The sum of what is worked by hand, one number an end.
@@ -56,7 +56,7 @@ fn the_first_match_ends_it() {
 fn the_second_end_is_compared_with_the_first() {
     assert_eq!(comparisons(&[[[0., 0.]; 2]], 0.), 1);
     let segments = [[[0., 0.], [4., 0.]], [[2., 0.], [2.5, 0.]]];
-    let found = stitch(&segments, 1.).unwrap();
+    let found = stitch(&segments, false, 1.).unwrap();
     assert_eq!(
         (found.points.len(), found.comparisons),
         (3, sum(&[0, 1, 2, 3]))
@@ -105,7 +105,7 @@ fn plane_cuts() {
     let nodes = [0, 1, 2, 3, 4, 5, 6, 7];
     let at = |z, tol| {
         let (origin, up) = ([0., 0., z], [0., 0., 1.]);
-        cut_by_plane(SpaceType::Hex8, &nodes, &coords, &origin, &up, tol).unwrap()
+        cut_by_plane(SpaceType::Hex8, &nodes, &coords, &origin, &up, false, tol).unwrap()
     };
     assert_eq!(at(0.5, 0.).comparisons, sum(&[0, 1, 2, 3, 2, 3, 4, 1]));
     assert_eq!(at(2., 0.).comparisons, 0);
@@ -125,9 +125,9 @@ fn a_plane_cut_compares_as_stitching_what_it_gathers() {
         let nodes = walls.join(&FACE_END);
         let (origin, up) = ([0., 0., 0.5], [0., 0., 1.]);
         let tol = tolerance_in_space(&coords).unwrap();
-        let cut = cut_by_plane(SpaceType::Phed, &nodes, &coords, &origin, &up, tol).unwrap();
+        let cut = cut_by_plane(SpaceType::Phed, &nodes, &coords, &origin, &up, false, tol).unwrap();
         let gathered = gather(SpaceType::Phed, &nodes, &coords, &origin, &up, tol).unwrap();
-        assert_eq!(stitch(&gathered.segments, tol), Ok(cut.clone()));
+        assert_eq!(stitch(&gathered.segments, false, tol), Ok(cut.clone()));
         let n = n as u32;
         assert_eq!(
             (gathered.segments.len(), cut.edges.in_loops),
@@ -141,12 +141,12 @@ fn a_plane_cut_compares_as_stitching_what_it_gathers() {
 #[test]
 fn refused() {
     let segments = vec![[[0., 0.], [1., 0.]]; MOST_SEGMENTS + 1];
-    assert_eq!(stitch(&segments, NAN), Err(Refusal::Segments));
+    assert_eq!(stitch(&segments, false, NAN), Err(Refusal::Segments));
     let into = Buffers {
         numbers: &mut [0.; 3],
         nodes: &mut [0],
         ends: &mut [],
     };
-    let short = lent::stitch(&[0., 0., 1., 0.], NAN, into);
+    let short = lent::stitch(&[0., 0., 1., 0.], false, NAN, into);
     assert_eq!(short, Err(Refusal::ShortBuffer));
 }

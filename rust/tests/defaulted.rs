@@ -80,7 +80,7 @@ fn a_brick_of_side_1e_310() {
     let (origin, up) = ([0., 0., 5e-311], [0., 0., 1.]);
     let gathered = gather(SpaceType::Hex8, &nodes, &coords, &origin, &up, 0.).unwrap();
     assert_eq!((gathered.segments.len(), gathered.defaulted), (0, 8));
-    let section = cut_by_plane(SpaceType::Hex8, &nodes, &coords, &origin, &up, 0.).unwrap();
+    let section = cut_by_plane(SpaceType::Hex8, &nodes, &coords, &origin, &up, false, 0.).unwrap();
     assert_eq!((section.edges, section.defaulted), (Edges::default(), 8));
     let faces = [[0, 1, 5, 4], [4, 5, 6, 7]];
     let alone = faces.map(|face| {
@@ -99,7 +99,7 @@ fn a_line_in_space_adds_those_of_its_loops() {
     let coords = [end(0., -s), end(2., s)].concat().concat();
     let nodes = [0, 1, 2, 3, 4, 5];
     let wedge = SpaceType::Wedge6;
-    let plane = cut_by_plane(wedge, &nodes, &coords, &[0.; 3], &[0., -1., 0.], 0.).unwrap();
+    let plane = cut_by_plane(wedge, &nodes, &coords, &[0.; 3], &[0., -1., 0.], false, 0.).unwrap();
     assert_eq!((plane.ends.len(), plane.defaulted), (1, 6));
     let line = cut_by_line(wedge, &nodes, &coords, &[0.; 3], &[1., 0., 0.], 0.).unwrap();
     assert_eq!((line.segments.len(), line.defaulted), (1, 8));
@@ -119,7 +119,7 @@ fn the_most_of_one_face() {
     let up = [0., 0., 1.];
     let gathered = gather(SpaceType::Phed, &nodes, &coords, &[0.; 3], &up, 0.).unwrap();
     assert_eq!((gathered.segments.len(), gathered.defaulted), (128, 256));
-    let section = cut_by_plane(SpaceType::Phed, &nodes, &coords, &[0.; 3], &up, 0.).unwrap();
+    let section = cut_by_plane(SpaceType::Phed, &nodes, &coords, &[0.; 3], &up, false, 0.).unwrap();
     assert_eq!((section.edges.open, section.defaulted), (128, 256));
 }
 
@@ -129,9 +129,9 @@ fn none() {
     let coords = [0., 0., 0., 1., 0., 0., 0., 1., 0., 0., 0., 1.];
     let at = |z| {
         let (tet, nodes, up) = (SpaceType::Tet4, [0, 1, 2, 3], [0., 0., 1.]);
-        cut_by_plane(tet, &nodes, &coords, &[0., 0., z], &up, 0.).unwrap()
+        cut_by_plane(tet, &nodes, &coords, &[0., 0., z], &up, false, 0.).unwrap()
     };
     assert_eq!((at(0.25).defaulted, at(2.).defaulted), (0, 0));
     let segments = [[[0., 0.], [NAN, 1.]], [[LEAST, -LEAST], [INFINITY, 0.]]];
-    assert_eq!(stitch(&segments, 0.).unwrap().defaulted, 0);
+    assert_eq!(stitch(&segments, false, 0.).unwrap().defaulted, 0);
 }

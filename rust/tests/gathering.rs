@@ -92,10 +92,10 @@ fn gathered_and_stitched_is_the_plane_cut() {
             for origin in [HALF, [0.; 3], [0.25, 0.25, 0.25], [f64::NAN; 3]] {
                 for tol in [0., 1e-12, 0.25, -1., f64::NAN, f64::INFINITY] {
                     for coords in [BRICK, with_nan] {
-                        let cut =
-                            cut_by_plane(kind, &nodes, &coords, &origin, &normal, tol).unwrap();
+                        let cut = cut_by_plane(kind, &nodes, &coords, &origin, &normal, false, tol)
+                            .unwrap();
                         let found = gather(kind, &nodes, &coords, &origin, &normal, tol).unwrap();
-                        let stitched = stitch(&found.segments, tol).unwrap();
+                        let stitched = stitch(&found.segments, false, tol).unwrap();
                         assert_eq!(bits(&stitched), bits(&cut));
                         assert_eq!((found.defaulted, stitched.defaulted), (cut.defaulted, 0));
                         assert_eq!(stitched.comparisons, cut.comparisons);

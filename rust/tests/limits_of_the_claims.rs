@@ -14,7 +14,7 @@ fn rounded_area(points: &[[f64; 2]]) -> f64 {
 fn a_reversed_loop_can_have_a_negative_area() {
     let corners = [[0.5, -0.1], [-0.1, -0.3], [0.5, 0.], [-0.1, 0.1]];
     let sides: Vec<_> = (0..4).map(|k| [corners[k], corners[(k + 1) % 4]]).collect();
-    let section = stitch(&sides, 0.).unwrap();
+    let section = stitch(&sides, false, 0.).unwrap();
     assert_eq!(section.loops().collect::<Vec<_>>(), [[3, 2, 1, 0]]);
     let polygon = section.polygons().next().unwrap();
     assert!(rounded_area(&corners) < 0. && rounded_area(&polygon) < 0.);
@@ -33,7 +33,7 @@ fn a_part_of_a_loop_can_run_clockwise() {
         [-4., 2.],
     ];
     let sides: Vec<_> = chain.windows(2).map(|pair| [pair[0], pair[1]]).collect();
-    let section = stitch(&sides, 0.).unwrap();
+    let section = stitch(&sides, false, 0.).unwrap();
     assert_eq!(section.loops().collect::<Vec<_>>(), [[4, 1, 3, 2, 1, 0]]);
     let polygon = section.polygons().next().unwrap();
     assert_eq!(
@@ -56,7 +56,15 @@ fn a_line_through_an_open_section_has_no_segment() {
     let (middle, along) = ([0.5, 0.5, 0.5], [1., 0., 0.]);
     let found = cut_by_line(SpaceType::Phed, &five, &cube, &middle, &along, 1e-12).unwrap();
     assert!(found.segments.is_empty());
-    let section =
-        cut_by_plane(SpaceType::Phed, &five, &cube, &middle, &[0., 0., 1.], 1e-12).unwrap();
+    let section = cut_by_plane(
+        SpaceType::Phed,
+        &five,
+        &cube,
+        &middle,
+        &[0., 0., 1.],
+        false,
+        1e-12,
+    )
+    .unwrap();
     assert_eq!((section.edges.listed, section.edges.open), (3, 3));
 }

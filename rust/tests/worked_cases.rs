@@ -12,7 +12,16 @@ const SQUARE: [f64; 8] = [0., 0., 1., 0., 1., 1., 0., 1.];
 const INFINITY: f64 = f64::INFINITY;
 
 fn brick_at(z: f64) -> Section {
-    cut_by_plane(SpaceType::Hex8, &EIGHT, &BRICK, &[0., 0., z], &UP, 0.).unwrap()
+    cut_by_plane(
+        SpaceType::Hex8,
+        &EIGHT,
+        &BRICK,
+        &[0., 0., z],
+        &UP,
+        false,
+        0.,
+    )
+    .unwrap()
 }
 
 /// Listed, in loops, flat, open.
@@ -61,7 +70,7 @@ fn case_4_the_tetrahedron() {
     let coords = [0., 0., 0., 1., 0., 0., 0., 1., 0., 0., 0., 1.];
     let at = |z| {
         let (origin, nodes) = ([0., 0., z], [0, 1, 2, 3]);
-        cut_by_plane(SpaceType::Tet4, &nodes, &coords, &origin, &UP, 0.).unwrap()
+        cut_by_plane(SpaceType::Tet4, &nodes, &coords, &origin, &UP, false, 0.).unwrap()
     };
     assert!(loops(&at(1.)).is_empty());
     let low = at(0.25);
@@ -72,24 +81,24 @@ fn case_4_the_tetrahedron() {
 
 #[test]
 fn cases_5_to_10_stitching() {
-    let none = stitch(&[], 0.).unwrap();
+    let none = stitch(&[], false, 0.).unwrap();
     assert_eq!((none.points.len(), counts(&none)), (0, [0; 4]));
 
-    let closed = stitch(&triangle(), 0.).unwrap();
+    let closed = stitch(&triangle(), false, 0.).unwrap();
     assert_eq!(loops(&closed), [[2, 1, 0]]);
     assert_eq!(counts(&closed), [3, 3, 0, 0]);
 
-    let two = stitch(&triangle()[..2], 0.).unwrap();
+    let two = stitch(&triangle()[..2], false, 0.).unwrap();
     assert_eq!(counts(&two), [2, 0, 0, 2]);
 
-    let unwelded = stitch(&triangle(), f64::NAN).unwrap();
+    let unwelded = stitch(&triangle(), false, f64::NAN).unwrap();
     assert_eq!(
         (unwelded.points.len(), counts(&unwelded)),
         (6, [3, 0, 0, 3])
     );
 
     let line = chain(&[[0., 0.], [1., 0.], [2., 0.], [0., 0.]]);
-    assert_eq!(counts(&stitch(&line, 0.).unwrap()), [3, 0, 3, 0]);
+    assert_eq!(counts(&stitch(&line, false, 0.).unwrap()), [3, 0, 3, 0]);
 
     let tie = chain(&[
         [-2., 1.],
@@ -100,7 +109,7 @@ fn cases_5_to_10_stitching() {
         [-2., -1.],
         [-2., 1.],
     ]);
-    assert_eq!(counts(&stitch(&tie, 0.).unwrap()), [6, 0, 6, 0]);
+    assert_eq!(counts(&stitch(&tie, false, 0.).unwrap()), [6, 0, 6, 0]);
 }
 
 #[test]
@@ -114,8 +123,9 @@ fn cases_11_and_12_tolerance_and_roots() {
 #[test]
 fn case_13_odd_normals() {
     let middle = [0.5; 3];
-    let plane =
-        |normal: [f64; 3]| cut_by_plane(SpaceType::Hex8, &EIGHT, &BRICK, &middle, &normal, 0.);
+    let plane = |normal: [f64; 3]| {
+        cut_by_plane(SpaceType::Hex8, &EIGHT, &BRICK, &middle, &normal, false, 0.)
+    };
     let line = |along: [f64; 3]| cut_by_line(SpaceType::Hex8, &EIGHT, &BRICK, &middle, &along, 0.);
     let huge = [1e200, 0., 0.];
     assert!(loops(&plane(huge).unwrap()).is_empty());
@@ -134,8 +144,11 @@ fn case_13_odd_normals() {
 #[test]
 fn case_14_limits() {
     let segments = vec![[[0., 0.], [1., 0.]]; 385];
-    assert_eq!(counts(&stitch(&segments[..384], 0.).unwrap()), [1, 0, 0, 1]);
-    assert_eq!(stitch(&segments, 0.), Err(Refusal::Segments));
+    assert_eq!(
+        counts(&stitch(&segments[..384], false, 0.).unwrap()),
+        [1, 0, 0, 1]
+    );
+    assert_eq!(stitch(&segments, false, 0.), Err(Refusal::Segments));
     let nodes: Vec<u64> = (0..257).map(|k| k % 4).collect();
     let cut = |n: usize| {
         let (origin, normal) = ([0., 0.5], [0., 1.]);
