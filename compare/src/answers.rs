@@ -3,8 +3,7 @@
 use crate::comparisons;
 use crate::entries::{Case, Cut, Entry, Lent, Told};
 use crate::numbers::agree;
-use crate::walks::{walked, Edges};
-use oracle::counts::listed;
+use oracle::walks::{repeats, Edges, Walked};
 use oracle::{Build, Cell, Section, Segment, Stop};
 
 /// What a call returns and writes.
@@ -34,7 +33,7 @@ const MOST_SEGMENTS: usize = 384;
 pub const PGON: u8 = 11;
 pub const PHED: u8 = 18;
 
-/// The answer, by this build of the Rust. `Build::Rust` tells neither crossings in the middle by default nor comparisons of
+/// The answer, by this build of the Rust, and in the strict way by another walk too. `Build::Rust` tells neither crossings in the middle by default nor comparisons of
 /// points: it counts none.
 pub fn answer(case: &Case, build: Build) -> Answer {
     let found = match case.entry {
@@ -174,7 +173,7 @@ fn plane(case: &Case, build: Build) -> Result<Answer, u32> {
     };
     let ((cut, comparisons), defaulted) = unrefused(case, fit, counted)?;
     let segments = oracle::plane_segments(build, cell, &origin, &normal, case.tol).unwrap();
-    let answer = section(&cut, &segments, case.tol, comparisons);
+    let answer = section(case, cut, &segments, comparisons);
     let told = Told {
         defaulted,
         ..answer.told
@@ -199,18 +198,21 @@ fn stitch(case: &Case, build: Build) -> Result<Answer, u32> {
     let segments = comparisons::segments(numbers);
     let stitch = || oracle::stitch(build, &segments, case.tol);
     let (found, comparisons) = oracle::comparisons(stitch);
-    Ok(section(&found, &segments, case.tol, comparisons))
+    Ok(section(case, found, &segments, comparisons))
 }
 
 /// A section as it stands in buffers, without crossings. The counts of edges are the rules', by cosines; the Rust has none.
-fn section(found: &Section, segments: &[Segment<2>], tol: f64, comparisons: usize) -> Answer {
-    let (points, edges) = listed(segments, tol);
+/// Nor has it a strict way: there the loops in which a point stands twice are left out.
+fn section(case: &Case, mut found: Section, segments: &[Segment<2>], comparisons: usize) -> Answer {
+    let strict = case.strict != 0;
+    found.loops.retain(|nodes| !(strict && repeats(nodes)));
     let Edges {
         listed,
         in_loops,
+        pinched,
         flat,
         open,
-    } = walked(&points, &edges, tol);
+    } = Walked::new(segments, case.tol).edges(strict);
     let ends = found.loops.iter().scan(0, |total, nodes| {
         *total += nodes.len() as u32;
         Some(*total)
@@ -224,6 +226,7 @@ fn section(found: &Section, segments: &[Segment<2>], tol: f64, comparisons: usiz
             loops: found.loops.len() as u32,
             listed: listed as u32,
             in_loops: in_loops as u32,
+            pinched: pinched as u32,
             flat: flat as u32,
             open: open as u32,
             comparisons: comparisons as u32,

@@ -132,10 +132,71 @@ fn corners<const D: usize>(random: &mut Random, shape: &[[f64; D]]) -> Vec<[f64;
     }
 }
 
-/// A type of fixed shape. Its mid-side nodes are any numbers at all.
+/// A hexahedron of eight different corners. The plane across its third axis through its corner 0 cuts it along two triangles
+/// that share that corner, since the edge from 6 to 7 passes through it; the one is this many times as long as the other.
+fn touching_corners(times: f64) -> [[f64; 3]; 8] {
+    let [x, y] = [1.0 - 2.0 * times, 2.0 * times];
+    [
+        [0.0, 0.0, 0.0],
+        [-1.0, 0.0, -1.0],
+        [x, y, 1.0],
+        [1.0, -2.0, 1.0],
+        [1.0, 2.0, 1.0],
+        [x, -y, 1.0],
+        [-1.0, 0.0, 1.0],
+        [1.0, 0.0, -1.0],
+    ]
+}
+
+/// That hexahedron, of either type or of this one, scaled, moved and turned, its corners numbered along the brick's from any one
+/// on; and origin and normal of that plane.
+pub fn touching(random: &mut Random, number: Option<u8>) -> (Cell, [[f64; 3]; 2]) {
+    let number = number.unwrap_or_else(|| random.pick(&[14, 15]));
+    let scale = random.pick(&[1.0, 0.5, 4.0, 2f64.powi(-30)]);
+    let shift: [f64; 3] = std::array::from_fn(|_| random.pick(&[0.0, 1.0, -8.0]));
+    let turn = random.within(0, 2);
+    let moved = |p: [f64; 3]| std::array::from_fn(|k| scale * (p[(k + turn) % 3] + shift[k]));
+    let times = random.pick(&[1.0, 2.0, 3.0]);
+    let corners = touching_corners(times).map(moved);
+    let renumbered = renumbered(random).map(|k| corners[k]);
+    let shape = SPACE_SHAPES.iter().find(|shape| shape.0 == number).unwrap();
+    let cell = with_mid_sides(random, shape, &renumbered);
+    let normal = std::array::from_fn(|k| if (k + turn) % 3 == 2 { 1.0 } else { 0.0 });
+    (cell, [corners[0], normal])
+}
+
+/// The corners of the brick in another order, by which its edges and faces stay edges and faces: its axes are exchanged and
+/// turned round.
+fn renumbered(random: &mut Random) -> [usize; 8] {
+    let mut axes = [0, 1, 2];
+    random.shuffle(&mut axes);
+    let turned: [bool; 3] = std::array::from_fn(|_| random.one_in(2));
+    std::array::from_fn(|corner| {
+        let image: [f64; 3] = std::array::from_fn(|k| {
+            let x = BRICK[corner][axes[k]];
+            if turned[k] {
+                1.0 - x
+            } else {
+                x
+            }
+        });
+        BRICK.iter().position(|p| *p == image).unwrap()
+    })
+}
+
+/// A type of fixed shape.
 fn shaped<const D: usize>(random: &mut Random, shape: &Shape<D>) -> Cell {
     let points = corners(random, shape.2);
-    let mut cell = numbered(random, shape.0, &points);
+    with_mid_sides(random, shape, &points)
+}
+
+/// A cell with these corners. Its mid-side nodes are any numbers at all.
+fn with_mid_sides<const D: usize>(
+    random: &mut Random,
+    shape: &Shape<D>,
+    points: &[[f64; D]],
+) -> Cell {
+    let mut cell = numbered(random, shape.0, points);
     let mid_sides = shape.1 - shape.2.len();
     let rows = (cell.coords.len() / D) as u64;
     let wild = random.pick(&[2u64.pow(32), 2u64.pow(63), u64::MAX - 1, u64::MAX]);

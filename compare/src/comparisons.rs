@@ -49,12 +49,12 @@ pub fn of_segments(segments: &[Segment], tol: f64) -> Welding {
     }
 }
 
-/// Those of a case that is not refused: of the segments that are gathered or handed over.
-pub fn of_case(case: &Case) -> Welding {
+/// The segments that a case stitches which is not refused: those that are gathered or handed over. Other entries tell of none.
+pub fn stitched(case: &Case) -> Vec<Segment> {
     match case.entry {
-        Entry::Plane => of_segments(&gathered(case), case.tol),
-        Entry::Stitch => of_segments(&segments(&case.segments), case.tol),
-        _ => Welding::default(),
+        Entry::Plane => gathered(case),
+        Entry::Stitch => segments(&case.segments),
+        _ => Vec::new(),
     }
 }
 

@@ -1,7 +1,7 @@
 //! Cases for the entries: a cell with a cut placed in it and buffers lent, whole or with something wrong.
 
 use crate::answers::{kept_corners, room, PGON, PHED};
-use crate::cells::{kind, plane_cell, space_cell, Cell};
+use crate::cells::{kind, plane_cell, space_cell, touching, Cell};
 use crate::entries::{Case, Entry};
 use crate::faces::nearly_no_tolerance;
 use crate::lists;
@@ -10,7 +10,9 @@ use crate::random::Random;
 
 /// A case of this entry that is refused by no number but 6, with room that fits; of this type, if any.
 pub fn sound(random: &mut Random, entry: Entry, number: Option<u8>) -> Case {
+    let hexahedron = number.is_none_or(|number| [14, 15].contains(&number));
     let mut case = match entry {
+        Entry::Plane if hexahedron && random.one_in(32) => touching_itself(random, number),
         Entry::Plane | Entry::Gather | Entry::LineInSpace => {
             let cell = space_cell(random, number);
             placed::<3>(random, entry, cell)
@@ -59,6 +61,22 @@ pub fn refusals(entry: Entry) -> &'static [u32] {
         Entry::Stitch => &[8, 7],
         Entry::ToleranceInSpace | Entry::ToleranceInPlane => &[3],
         _ => &[1, 2, 3, 4, 5, 6, 7],
+    }
+}
+
+/// A hexahedron cut through a corner that its section passes twice.
+fn touching_itself(random: &mut Random, number: Option<u8>) -> Case {
+    let (cell, [origin, normal]) = touching(random, number);
+    let own = oracle::tolerance(3, &cell.coords).unwrap();
+    let length = random.pick(&[1.0, -1.0, 4.0]);
+    Case {
+        number: cell.number,
+        conn: cell.conn,
+        coords: cell.coords,
+        origin: origin.to_vec(),
+        vector: normal.map(|x| length * x).to_vec(),
+        tol: random.pick(&[0.0, own]),
+        ..Case::new(Entry::Plane)
     }
 }
 

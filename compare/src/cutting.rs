@@ -1,16 +1,18 @@
-//! The linked entries held against mefikit's Rust and the rules' refusals, and their counts against
+//! The linked entries held against mefikit's Rust and the rules' refusals, and their counts, and the strict way, against
 //! another walk and plain counts of crossings and of comparisons.
 
 use crate::answers::{answer, kept_corners};
-use crate::comparisons::{self, Welding, Weldings};
+use crate::comparisons::{of_segments, stitched, Welding, Weldings};
 use crate::cuts::{any_case, corner, refusals, sound, spoil};
 use crate::defaulted::{of_case, Crossings, Cuts};
 use crate::entries::{Case, Cut, Entry, Lent, Told};
 use crate::numbers::{agree, alike, same, untouched, UNTOUCHED};
 use crate::random::Random;
-use crate::walks::Edges;
+use crate::stitching::loops_are;
+use crate::ways::{of_walks, Repeated, Repeats};
 use crate::{ByType, Found};
 use oracle::by_rules::reach::{dot, unit};
+use oracle::walks::{Edges, Walked};
 use oracle::Build;
 
 /// Stands in the nodes and ends of a buffer before it is lent, and must stand where nothing was written.
@@ -34,9 +36,10 @@ pub struct Right {
     pub arccosine: bool,
     pub crossings: Crossings,
     pub welding: Welding,
+    pub repeats: Repeats,
 }
 
-/// Holds an answer against mefikit's on one case.
+/// Holds an answer against mefikit's on one case, and in the strict way against another walk's.
 pub fn judge(case: &Case, cut: Cut, buffers: &mut Buffers) -> Result<Right, String> {
     let Buffers {
         numbers,
@@ -90,10 +93,15 @@ pub fn judge(case: &Case, cut: Cut, buffers: &mut Buffers) -> Result<Right, Stri
     if !right {
         return wrong("differs from the Rust");
     }
-    let (crossings, welding) = match told.refusal {
-        0 => (of_case(case), comparisons::of_case(case)),
+    let (crossings, list) = match told.refusal {
+        0 => (of_case(case), stitched(case)),
         _ => Default::default(),
     };
+    let walked = Walked::new(&list, case.tol);
+    if !loops_are(nodes, ends, &walked.section(case.strict != 0)) {
+        return wrong("another walk gives other loops");
+    }
+    let welding = of_segments(&list, case.tol);
     if crossings.defaulted() != told.defaulted {
         return wrong(&format!("the plain count is {crossings:?}"));
     }
@@ -105,6 +113,7 @@ pub fn judge(case: &Case, cut: Cut, buffers: &mut Buffers) -> Result<Right, Stri
         arccosine,
         crossings,
         welding,
+        repeats: of_walks(&walked),
     })
 }
 
@@ -139,6 +148,9 @@ pub struct Reached {
     /// Those with crossings in the middle by default.
     pub cuts: Cuts,
     pub weldings: Weldings,
+    pub repeated: Repeated,
+    /// Those with a closed walk that passes a point twice, by type number.
+    pub pinched: ByType,
     /// Cells with a corner above the tolerance and one below that list no edge.
     pub unlisted: Unlisted,
 }
@@ -189,16 +201,22 @@ impl Reached {
             arccosine,
             crossings,
             welding,
+            repeats,
         }) = &outcome
         {
             self.cuts.count(crossings, case.tol, gives(case, told));
             self.weldings.count(welding);
+            self.repeated.count(*repeats);
+            if repeats.pinched {
+                self.pinched.count(case.number);
+            }
             self.refused[told.refusal as usize] += 1;
             self.arccosine += u64::from(*arccosine);
             self.loops += u64::from(told.loops);
             self.edges.add(Edges {
                 listed: told.listed as usize,
                 in_loops: told.in_loops as usize,
+                pinched: told.pinched as usize,
                 flat: told.flat as usize,
                 open: told.open as usize,
             });
@@ -241,10 +259,15 @@ fn crossed(case: &Case) -> bool {
     heights.iter().any(|&h| h > case.tol) && heights.iter().any(|&h| h < -case.tol)
 }
 
-/// Holds an entry against mefikit's on random cases.
-pub fn compare(entry: Entry, cases: u64, cut: Cut) -> Reached {
+/// Holds an entry against mefikit's on random cases, with these values of `strict` in turn.
+pub fn compare(entry: Entry, cases: u64, ways: &[u8], cut: Cut) -> Reached {
     let mut random = Random::new(0x9ae1_6a3b_2f90_404f + entry as u64);
-    compare_each((0..cases).map(|_| any_case(&mut random, entry)), cut)
+    let strict = ways.iter().cycle();
+    let case = |&strict| Case {
+        strict,
+        ..any_case(&mut random, entry)
+    };
+    compare_each(strict.take(cases as usize).map(case), cut)
 }
 
 /// The same on these cases.
@@ -258,16 +281,20 @@ pub fn compare_each(cases: impl Iterator<Item = Case>, cut: Cut) -> Reached {
 }
 
 /// Holds an entry against the rules' order of refusals: for each type, cells with each set of conditions
-/// together, `turns` times. The first of the set must be told. Counted as giving: all that are refused.
-pub fn compare_refusals(entry: Entry, turns: u64, cut: Cut) -> Found {
+/// together, `turns` times with each of these values of `strict`. The first of the set must be told. Counted as giving: all
+/// that are refused.
+pub fn compare_refusals(entry: Entry, turns: u64, ways: &[u8], cut: Cut) -> Found {
     let mut random = Random::new(0xc949_d7c7_509e_6557 + entry as u64);
     let mut buffers = Buffers::default();
     let mut found = Found::default();
     let order = refusals(entry);
     for number in entry.types() {
         for set in 0u32..1 << order.len() {
-            for _ in 0..turns {
-                let mut case = sound(&mut random, entry, Some(number));
+            for &strict in (0..turns).flat_map(|_| ways) {
+                let mut case = Case {
+                    strict,
+                    ..sound(&mut random, entry, Some(number))
+                };
                 let chosen = (0..order.len()).filter(|k| set >> k & 1 == 1);
                 // from the last to the first: what comes first may hide how a later one is made
                 let made: Vec<usize> = chosen

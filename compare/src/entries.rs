@@ -4,6 +4,8 @@ use cicelybeam::lent::{cut_by_line, cut_by_plane, cut_plane_cell_by_direction};
 use cicelybeam::lent::{cut_plane_cell_by_normal, gather, stitch, Buffers, Written, WrittenLine};
 use cicelybeam::{tolerance_in_plane, tolerance_in_space, Refusal};
 
+use crate::proved;
+
 /// Which function, by the number that recorded answers have for it. 8 is the square root.
 #[derive(Clone, Copy, Debug, PartialEq, Eq)]
 pub enum Entry {
@@ -66,6 +68,8 @@ pub struct Case {
     /// The normal or the direction.
     pub vector: Vec<f64>,
     pub segments: Vec<f64>,
+    /// The way of a plane cut and of stitching: 0 is the usual one, anything else the strict one.
+    pub strict: u8,
     pub tol: f64,
     /// The lengths of the buffers for numbers, nodes and ends.
     pub lent: [usize; 3],
@@ -82,6 +86,7 @@ impl Case {
             origin: Vec::new(),
             vector: Vec::new(),
             segments: Vec::new(),
+            strict: 0,
             tol: 0.0,
             lent: [0; 3],
         }
@@ -97,8 +102,8 @@ impl Case {
             format!("[{}]", bits.join(" "))
         };
         format!(
-            "{:?}, type {}, nodes {:?}, coordinates {}, origin {}, vector {}, segments {}, tol {:016x} \
-             ({:e}), lent {:?}; origin {:?}, vector {:?}, first coordinates {:?}",
+            "{:?}, type {}, nodes {:?}, coordinates {}, origin {}, vector {}, segments {}, \
+             strict {}, tol {:016x} ({:e}), lent {:?}; origin {:?}, vector {:?}, first coordinates {:?}",
             self.entry,
             self.number,
             self.conn,
@@ -106,6 +111,7 @@ impl Case {
             bits(&self.origin),
             bits(&self.vector),
             bits(&self.segments),
+            self.strict,
             self.tol.to_bits(),
             self.tol,
             self.lent,
@@ -126,6 +132,7 @@ pub struct Told {
     pub loops: u32,
     pub listed: u32,
     pub in_loops: u32,
+    pub pinched: u32,
     pub flat: u32,
     pub open: u32,
     /// Crossings in the middle by default.
@@ -145,10 +152,15 @@ pub struct Lent<'a> {
 /// Answers a case in these buffers.
 pub type Cut = fn(&Case, Lent) -> Told;
 
-/// The entry, called by the Rust crate's functions over lent buffers.
+/// The entry, called by the Rust crate's functions over lent buffers; where `strict` is neither 0 nor 1, which they do not hand
+/// over, as C calls it.
 pub fn ours(case: &Case, lent: Lent) -> Told {
     let (number, conn, coords) = (case.number, &case.conn, &case.coords);
     let (origin, vector, tol) = (&case.origin, &case.vector, case.tol);
+    let strict = case.strict != 0;
+    if case.strict > 1 {
+        return by_c(case, lent);
+    }
     let Lent {
         numbers,
         nodes,
@@ -163,10 +175,13 @@ pub fn ours(case: &Case, lent: Lent) -> Told {
         Entry::Plane => {
             let into = into(numbers, nodes, ends);
             section(cut_by_plane(
-                number, conn, coords, origin, vector, tol, into,
+                number, conn, coords, origin, vector, strict, tol, into,
             ))
         }
-        Entry::Stitch => section(stitch(&case.segments, tol, into(numbers, nodes, ends))),
+        Entry::Stitch => {
+            let into = into(numbers, nodes, ends);
+            section(stitch(&case.segments, strict, tol, into))
+        }
         Entry::Gather => segments(gather(number, conn, coords, origin, vector, tol, numbers)),
         Entry::LineInSpace => segments(cut_by_line(
             number, conn, coords, origin, vector, tol, numbers,
@@ -179,6 +194,29 @@ pub fn ours(case: &Case, lent: Lent) -> Told {
         )),
         Entry::ToleranceInSpace => tolerance(tolerance_in_space(coords)),
         Entry::ToleranceInPlane => tolerance(tolerance_in_plane(coords)),
+    }
+}
+
+/// The plane cut and stitching as C calls them.
+pub fn by_c(case: &Case, lent: Lent) -> Told {
+    let found = match case.entry {
+        Entry::Plane => proved::plane(case, lent),
+        Entry::Stitch => proved::stitch_alone(case, lent),
+        other => panic!("{other:?} has one way"),
+    };
+    Told {
+        refusal: found.refusal,
+        points: found.points,
+        nodes: found.nodes,
+        loops: found.loops,
+        listed: found.listed,
+        in_loops: found.in_loops,
+        pinched: found.pinched,
+        flat: found.flat,
+        open: found.open,
+        defaulted: found.defaulted,
+        comparisons: found.comparisons,
+        tolerance: 0.0,
     }
 }
 
@@ -197,6 +235,7 @@ fn section(found: Result<Written, Refusal>) -> Told {
         loops: found.loops as u32,
         listed: found.edges.listed,
         in_loops: found.edges.in_loops,
+        pinched: found.edges.pinched,
         flat: found.edges.flat,
         open: found.edges.open,
         defaulted: found.defaulted,

@@ -9,6 +9,7 @@ use crate::cutting::{compare_each, Reached};
 use crate::entries::{Case, Cut, Entry};
 use crate::numbers::{agree, same};
 use crate::random::Random;
+use crate::ways::{STRICT, USUAL};
 use crate::{ByType, Found};
 use oracle::Build;
 
@@ -71,7 +72,7 @@ pub fn judge(case: &Case, cut: Cut) -> Result<Right, String> {
         if [counted, welding.comparisons] != [section.told.comparisons as usize; 2] {
             return wrong("the comparisons are not those of stitching what was gathered");
         }
-        let mut again = stitched(&gathered, case.tol, cut);
+        let mut again = stitched(case, &gathered, cut);
         if again.told.defaulted != 0 {
             return wrong("stitching tells crossings in the middle by default");
         }
@@ -96,6 +97,7 @@ fn gathering_of(case: &Case) -> Case {
     Case {
         entry: Entry::Gather,
         lent: [case.lent[0], 0, 0],
+        strict: 0,
         ..case.clone()
     }
 }
@@ -108,11 +110,12 @@ fn refusal_of_gathering(case: &Case, refusal: u32) -> u32 {
     }
 }
 
-/// The numbers gathered, stitched in buffers of the least lengths.
-fn stitched(gathered: &Answer, tol: f64, cut: Cut) -> Answer {
+/// The numbers gathered, stitched in the plane cut's way in buffers of the least lengths.
+fn stitched(plane_cut: &Case, gathered: &Answer, cut: Cut) -> Answer {
     let mut case = Case {
         segments: gathered.numbers.clone(),
-        tol,
+        strict: plane_cut.strict,
+        tol: plane_cut.tol,
         ..Case::new(Entry::Stitch)
     };
     case.lent = room(&case);
@@ -135,10 +138,15 @@ fn face_by_face(cell: Case, cut: Cut) -> Vec<Answer> {
     faces.into_iter().map(gather).collect()
 }
 
-/// Random plane cuts, each refusal among them.
+/// Random plane cuts, each refusal among them, in the usual way and in the strict one in turn.
 fn plane_cuts(cases: u64) -> impl Iterator<Item = Case> {
     let mut random = Random::new(0x8f1b_bcdc_bf58_476d);
-    (0..cases).map(move |_| any_case(&mut random, Entry::Plane))
+    let ways = STRICT.iter().flat_map(|way| [way, &USUAL[0]]).cycle();
+    let case = move |&strict| Case {
+        strict,
+        ..any_case(&mut random, Entry::Plane)
+    };
+    ways.take(cases as usize).map(case)
 }
 
 /// Holds the gathering of random plane cuts against mefikit's Rust.

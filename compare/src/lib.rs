@@ -29,7 +29,7 @@ pub mod stitching;
 #[cfg(feature = "mefikit")]
 pub mod vectors;
 #[cfg(feature = "mefikit")]
-pub mod walks;
+pub mod ways;
 #[cfg(feature = "mefikit")]
 pub mod worked;
 #[cfg(feature = "mefikit")]

@@ -5,21 +5,31 @@ use crate::random::Random;
 
 pub type Segment = [[f64; 2]; 2];
 
-/// Segments to stitch, and the tolerance.
+/// Segments to stitch, the way, and the tolerance. The groups draw lists of the usual way.
 #[derive(Clone, Debug)]
 pub struct List {
     pub segments: Vec<Segment>,
+    pub strict: u8,
     pub tol: f64,
 }
 
 impl List {
+    pub fn new(segments: Vec<Segment>, tol: f64) -> List {
+        List {
+            segments,
+            strict: 0,
+            tol,
+        }
+    }
+
     /// The list as one line, in bits.
     pub fn told(&self) -> String {
         let end = |[x, y]: [f64; 2]| format!("({:016x},{:016x})", x.to_bits(), y.to_bits());
         let segment = |s: &Segment| format!("{}-{}", end(s[0]), end(s[1]));
         let segments: Vec<String> = self.segments.iter().map(segment).collect();
         format!(
-            "tol {:016x} ({:e}), {} segments {} that is {:?}",
+            "strict {}, tol {:016x} ({:e}), {} segments {} that is {:?}",
+            self.strict,
             self.tol.to_bits(),
             self.tol,
             segments.len(),
@@ -33,8 +43,8 @@ impl List {
 pub type Group = (&'static str, u64, fn(&mut Random) -> List);
 
 /// The groups.
-pub const GROUPS: [Group; 13] = [
-    ("edges among few whole points", 190, |random| {
+pub const GROUPS: [Group; 14] = [
+    ("edges among few whole points", 130, |random| {
         among_few(random, whole, usual_tolerance)
     }),
     ("edges among few random points", 150, |random| {
@@ -42,6 +52,7 @@ pub const GROUPS: [Group; 13] = [
     }),
     ("rings", 120, ring_alone),
     ("nested and touching polygons", 120, polygons),
+    ("triangles around one corner", 60, around_a_corner),
     ("points at the tolerance's edge", 120, at_the_edge),
     ("repeated and reversed segments", 80, repeated),
     ("junctions with close directions", 80, close_directions),
@@ -77,7 +88,7 @@ fn among_few(random: &mut Random, draw: Draw, tolerance: Draw) -> List {
         .collect();
     let segments = edges_among(random, &points, 16);
     let tol = tolerance(random);
-    List { segments, tol }
+    List::new(segments, tol)
 }
 
 fn edges_among(random: &mut Random, points: &[[f64; 2]], most: usize) -> Vec<Segment> {
@@ -113,7 +124,7 @@ fn ring_alone(random: &mut Random) -> List {
         mixed(random, &mut segments);
     }
     let tol = usual_tolerance(random);
-    List { segments, tol }
+    List::new(segments, tol)
 }
 
 /// The segments in any order, each either way round.
@@ -144,7 +155,34 @@ fn polygons(random: &mut Random) -> List {
         mixed(random, &mut segments);
     }
     let tol = random.pick(&[0.0, 1e-12, 1e-9, 0.5, 1.0]);
-    List { segments, tol }
+    List::new(segments, tol)
+}
+
+/// One to three pairs of triangles that share a corner, each pair across it from one another and alike or not in size, so that
+/// a walk goes straight on there, from one to the other; a square apart and an edge that ends at the corner now and then.
+fn around_a_corner(random: &mut Random) -> List {
+    let corner = point(random, whole);
+    let at = |[x, y]: [f64; 2], scale: f64| [corner[0] + scale * x, corner[1] + scale * y];
+    let mut segments = Vec::new();
+    for _ in 0..random.within(1, 3) {
+        let (a, b) = (point(random, whole), point(random, whole));
+        for scale in [1.0, random.pick(&[-1.0, -2.0, -0.5])] {
+            let (a, b) = (at(a, scale), at(b, scale));
+            segments.extend([[a, b], [b, corner], [corner, a]]);
+        }
+    }
+    if random.one_in(2) {
+        let [a, b, c, d] = [[20.0, 20.0], [21.0, 20.0], [21.0, 21.0], [20.0, 21.0]];
+        segments.extend([[a, b], [b, c], [c, d], [d, a]]);
+    }
+    if random.one_in(4) {
+        segments.push([point(random, whole), corner]);
+    }
+    if random.one_in(2) {
+        mixed(random, &mut segments);
+    }
+    let tol = random.pick(&[0.0, 1e-12, 1e-9, 0.5, 1.0]);
+    List::new(segments, tol)
 }
 
 /// Points at whole and half tolerances from one another and beside that, so that which of them weld
@@ -164,7 +202,7 @@ fn at_the_edge(random: &mut Random) -> List {
         .map(|_| std::array::from_fn(|_| near(random)))
         .collect();
     let segments = edges_among(random, &points, 20);
-    List { segments, tol }
+    List::new(segments, tol)
 }
 
 /// A list of another group, with segments of it once more, as they are or reversed.
@@ -207,7 +245,7 @@ fn close_directions(random: &mut Random) -> List {
             segments.push([back, here]);
         }
     }
-    List { segments, tol: 0.0 }
+    List::new(segments, 0.0)
 }
 
 /// Segments, as many as fill the small tables of the code or the large ones and some more or fewer, whose ends are all one
@@ -239,7 +277,7 @@ fn alike_or_apart(random: &mut Random) -> List {
         f64::NEG_INFINITY,
         f64::NAN,
     ]);
-    List { segments, tol }
+    List::new(segments, tol)
 }
 
 /// Up to 384 segments: a ring, polygons side by side, or edges among some tens of points.
@@ -265,5 +303,5 @@ fn many_edges(random: &mut Random) -> List {
     }
     segments.truncate(384);
     let tol = usual_tolerance(random);
-    List { segments, tol }
+    List::new(segments, tol)
 }

@@ -1,10 +1,43 @@
 //! The proved functions that are linked: those of Cicelybeam's interface, and those that crates/trial
 //! makes callable for tests.
 
+use crate::entries::{Case, Lent};
+
 mod linked {
-    use super::{Clipped, Stitched};
+    use super::{Clipped, Section, Stitched};
 
     extern "C" {
+        pub fn cicelybeam_plane(
+            number: u8,
+            conn: *const u64,
+            conn_len: usize,
+            coords: *const f64,
+            coords_len: usize,
+            origin: *const f64,
+            origin_len: usize,
+            normal: *const f64,
+            normal_len: usize,
+            strict: u8,
+            tol: f64,
+            numbers: *mut f64,
+            numbers_len: usize,
+            nodes: *mut u32,
+            nodes_len: usize,
+            ends: *mut u32,
+            ends_len: usize,
+        ) -> Section;
+        pub fn cicelybeam_stitch(
+            segments: *const f64,
+            segments_len: usize,
+            strict: u8,
+            tol: f64,
+            numbers: *mut f64,
+            numbers_len: usize,
+            nodes: *mut u32,
+            nodes_len: usize,
+            ends: *mut u32,
+            ends_len: usize,
+        ) -> Section;
         pub fn trial_space_segments(
             poly: *const f64,
             poly_len: usize,
@@ -30,6 +63,7 @@ mod linked {
         pub fn trial_stitch(
             segments: *const f64,
             segments_len: usize,
+            strict: u8,
             tol: f64,
             points: *mut f64,
             points_len: usize,
@@ -82,6 +116,67 @@ pub fn sqrt(x: f64) -> f64 {
     cicelybeam::sqrt(x)
 }
 
+/// What the plane cut and stitching alone tell, as C has it.
+#[repr(C)]
+#[derive(Clone, Copy, Debug)]
+pub struct Section {
+    pub refusal: u32,
+    pub points: u32,
+    pub nodes: u32,
+    pub loops: u32,
+    pub listed: u32,
+    pub in_loops: u32,
+    pub pinched: u32,
+    pub flat: u32,
+    pub open: u32,
+    pub defaulted: u32,
+    pub comparisons: u32,
+}
+
+/// The plane cut of a case.
+pub fn plane(case: &Case, lent: Lent) -> Section {
+    let [coords, origin, normal] = [&case.coords, &case.origin, &case.vector];
+    unsafe {
+        linked::cicelybeam_plane(
+            case.number,
+            case.conn.as_ptr(),
+            case.conn.len(),
+            coords.as_ptr(),
+            coords.len(),
+            origin.as_ptr(),
+            origin.len(),
+            normal.as_ptr(),
+            normal.len(),
+            case.strict,
+            case.tol,
+            lent.numbers.as_mut_ptr(),
+            lent.numbers.len(),
+            lent.nodes.as_mut_ptr(),
+            lent.nodes.len(),
+            lent.ends.as_mut_ptr(),
+            lent.ends.len(),
+        )
+    }
+}
+
+/// The stitching of a case.
+pub fn stitch_alone(case: &Case, lent: Lent) -> Section {
+    unsafe {
+        linked::cicelybeam_stitch(
+            case.segments.as_ptr(),
+            case.segments.len(),
+            case.strict,
+            case.tol,
+            lent.numbers.as_mut_ptr(),
+            lent.numbers.len(),
+            lent.nodes.as_mut_ptr(),
+            lent.nodes.len(),
+            lent.ends.as_mut_ptr(),
+            lent.ends.len(),
+        )
+    }
+}
+
 /// How many segments clipping wrote, or [`REFUSED`], and its crossings in the middle by default.
 #[repr(C)]
 #[derive(Clone, Copy, Debug, PartialEq, Eq)]
@@ -119,7 +214,7 @@ pub fn segments<const D: usize>(
     }
 }
 
-/// How many points, nodes and loops stitching wrote, its four counts of edges, and its comparisons of points.
+/// How many points, nodes and loops stitching wrote, its five counts of edges, and its comparisons of points.
 /// `fitted` is 1; if the lengths did not fit all are 0.
 #[repr(C)]
 #[derive(Clone, Copy, Debug, Default, PartialEq, Eq)]
@@ -130,6 +225,7 @@ pub struct Stitched {
     pub loops: usize,
     pub listed: usize,
     pub in_loops: usize,
+    pub pinched: usize,
     pub flat: usize,
     pub opened: usize,
     pub comparisons: usize,
@@ -138,6 +234,7 @@ pub struct Stitched {
 /// Stitching, written to the lent buffers.
 pub fn stitch(
     segments: &[[[f64; 2]; 2]],
+    strict: u8,
     tol: f64,
     points: &mut [f64],
     nodes: &mut [u32],
@@ -148,6 +245,7 @@ pub fn stitch(
         linked::trial_stitch(
             segments.as_ptr(),
             segments.len(),
+            strict,
             tol,
             points.as_mut_ptr(),
             points.len(),

@@ -6,12 +6,13 @@
 //! | words | what |
 //! |---|---|
 //! | 1 | the entry: 1 plane, 2 line in space, 3 plane cell by normal, 4 by direction, 5 stitching, 6 tolerance in space, 7 tolerance in the plane, 8 square root, 9 gathering |
+//! | 1 | strict, of entries 1 and 5, from 0 to 255: 0 is the usual way, anything else the strict one |
 //! | 1 | the type number |
 //! | 1 | the tolerance, in bits; for entry 8 the number whose root is taken |
 //! | four lists | nodes; coordinates, for entry 5 the numbers of the segments; origin; normal or direction |
 //! | 3 | the lengths of the buffers for numbers, nodes and ends |
 //! | 1 | expected of entries 6, 7 and 8: the tolerance or the root, in bits |
-//! | a list of 10 | expected: refusal, points (or segments), nodes, loops, edges listed, in loops, flat and open, crossings in the middle by default, and comparisons of points |
+//! | a list of 11 | expected: refusal, points (or segments), nodes, loops, edges listed, in loops, pinched, flat and open, crossings in the middle by default, and comparisons of points |
 //! | three lists | expected in the buffers, which keep the rest: numbers in bits (2 a point, 6 a segment in space, 4 in the plane and gathered), nodes, ends |
 //!
 //! Where an entry has no such argument or answer the word is 0 or the list is empty. Every NaN is
@@ -51,7 +52,12 @@ fn expected_bits(x: f64) -> u64 {
 
 /// The record of a case and its answer.
 pub fn words(case: &Case, answer: &Answer) -> Vec<u64> {
-    let mut words = vec![case.entry as u64, u64::from(case.number), bits(case.tol)];
+    let mut words = vec![
+        case.entry as u64,
+        u64::from(case.strict),
+        u64::from(case.number),
+        bits(case.tol),
+    ];
     put_list(&mut words, case.conn.iter().copied());
     let coords = match case.entry {
         Entry::Stitch => &case.segments,
@@ -97,7 +103,7 @@ fn put_list(words: &mut Vec<u64>, list: impl ExactSizeIterator<Item = u64>) {
     words.extend(list);
 }
 
-fn counts(told: &Told) -> [u32; 10] {
+fn counts(told: &Told) -> [u32; 11] {
     [
         told.refusal,
         told.points,
@@ -105,6 +111,7 @@ fn counts(told: &Told) -> [u32; 10] {
         told.loops,
         told.listed,
         told.in_loops,
+        told.pinched,
         told.flat,
         told.open,
         told.defaulted,
@@ -145,9 +152,9 @@ mod tests {
         let expected = [&[2][..], &record, &record].concat();
         assert_eq!(words[0], 1);
         assert_eq!(words[1 + NAME / 8..], expected);
-        let told = [10, 0, 0, 0, 0, 0, 0, 0, 0, 0, 0];
+        let told = [11, 0, 0, 0, 0, 0, 0, 0, 0, 0, 0, 0];
         let root = [(-0.0f64).to_bits()];
-        let given = [8, 0, 4.0f64.to_bits(), 0, 0, 0, 0, 0, 0, 0];
+        let given = [8, 0, 0, 4.0f64.to_bits(), 0, 0, 0, 0, 0, 0, 0];
         assert_eq!(record, [&given[..], &root, &told, &[0, 0, 0]].concat());
     }
 
@@ -160,10 +167,11 @@ mod tests {
             loops: 4,
             listed: 5,
             in_loops: 6,
-            flat: 7,
-            open: 8,
-            defaulted: 9,
-            comparisons: 10,
+            pinched: 7,
+            flat: 8,
+            open: 9,
+            defaulted: 10,
+            comparisons: 11,
             tolerance: 0.5,
         };
         let answer = Answer {
@@ -171,8 +179,37 @@ mod tests {
             ..Answer::default()
         };
         let words = words(&Case::new(Entry::Plane), &answer);
-        let expected = [0.5f64.to_bits(), 10, 1, 2, 3, 4, 5, 6, 7, 8, 9, 10, 0, 0, 0];
+        let expected = [
+            0.5f64.to_bits(),
+            11,
+            1,
+            2,
+            3,
+            4,
+            5,
+            6,
+            7,
+            8,
+            9,
+            10,
+            11,
+            0,
+            0,
+            0,
+        ];
         assert!(words.ends_with(&expected), "{words:?}");
+    }
+
+    #[test]
+    fn the_way_stands_between_the_entry_and_the_type() {
+        let case = Case {
+            strict: 255,
+            number: 14,
+            tol: 0.5,
+            ..Case::new(Entry::Plane)
+        };
+        let words = words(&case, &Answer::default());
+        assert_eq!(words[..4], [1, 255, 14, 0.5f64.to_bits()]);
     }
 
     #[test]

@@ -1,13 +1,14 @@
-//! The proved stitching held against mefikit's, and its counts against another walk and a plain count of comparisons.
+//! The proved stitching held against mefikit's in the usual way, against another walk in both, and its comparisons against
+//! a plain count.
 
 use crate::comparisons::{of_segments, Welding, Weldings};
 use crate::lists::{Group, List};
 use crate::numbers::{agree, alike, same, untouched, UNTOUCHED};
 use crate::proved::{self, Stitched};
 use crate::random::Random;
-use crate::walks::{walked, Edges};
+use crate::ways::{of_walks, Repeated, Repeats};
 use crate::Found;
-use oracle::counts::listed;
+use oracle::walks::{repeats, Edges, Walked};
 use oracle::{Build, Section};
 
 /// Stitches a list into points, nodes and ends.
@@ -15,7 +16,7 @@ pub type Stitch = fn(&List, &mut [f64], &mut [u32], &mut [u32]) -> Stitched;
 
 /// The proved stitching.
 pub fn ours(list: &List, points: &mut [f64], nodes: &mut [u32], ends: &mut [u32]) -> Stitched {
-    proved::stitch(&list.segments, list.tol, points, nodes, ends)
+    proved::stitch(&list.segments, list.strict, list.tol, points, nodes, ends)
 }
 
 /// Stands in the nodes and ends of a buffer before it is lent, and must stand where nothing was written.
@@ -38,6 +39,7 @@ pub struct Stitchings {
     pub found: Found,
     pub edges: Edges,
     pub weldings: Weldings,
+    pub repeated: Repeated,
     /// Lists on which the Rust and the Rust with cosines differ, and the first of them.
     pub arccosine: u64,
     pub first_arccosine: Option<String>,
@@ -47,11 +49,13 @@ pub struct Stitchings {
 pub struct Right {
     pub edges: Edges,
     pub welding: Welding,
+    pub repeats: Repeats,
     /// The Rust and the Rust with cosines differ.
     pub arccosine: bool,
 }
 
-/// Holds a stitching against mefikit's on one list, in exact buffers or longer ones.
+/// Holds a stitching against mefikit's and another walk on one list, in exact buffers or longer ones. mefikit has no strict way:
+/// there its loops are those in which no point stands twice.
 pub fn judge(
     list: &List,
     stitch: Stitch,
@@ -93,7 +97,9 @@ pub fn judge(
         return wrong("left a number unwritten");
     }
     let rules = || oracle::stitch(Build::ByRules, &list.segments, list.tol);
-    let (rules, comparisons) = oracle::comparisons(rules);
+    let (mut rules, comparisons) = oracle::comparisons(rules);
+    let strict = list.strict != 0;
+    rules.loops.retain(|nodes| !(strict && repeats(nodes)));
     let same_points = agree(same, points, rules.points.as_flattened());
     if !same_points || !loops_are(nodes, ends, &rules) {
         return wrong("differs from the rules");
@@ -102,19 +108,22 @@ pub fn judge(
     let cosine = oracle::stitch(Build::ByCosine, &list.segments, list.tol);
     let arccosine = rust.loops != cosine.loops;
     let alike_points = agree(alike, points, rust.points.as_flattened());
-    if !alike_points || !(arccosine || loops_are(nodes, ends, &rust)) {
+    if !alike_points || !(strict || arccosine || loops_are(nodes, ends, &rust)) {
         return wrong("differs from the Rust");
     }
-    let (welded, edges) = listed(&list.segments, list.tol);
-    let counted = walked(&welded, &edges, list.tol);
-    let in_loops = rules.loops.iter().map(Vec::len).sum();
+    let walked = Walked::new(&list.segments, list.tol);
+    if walked.section(strict).loops != rules.loops {
+        return wrong("another walk gives other loops than the rules");
+    }
+    let counted = walked.edges(strict);
     let claimed = Edges {
         listed: told.listed,
         in_loops: told.in_loops,
+        pinched: told.pinched,
         flat: told.flat,
         open: told.opened,
     };
-    if claimed != counted || told.in_loops != in_loops || told.listed != edges.len() {
+    if claimed != counted || told.nodes != counted.in_loops {
         return wrong(&format!("the counts are not {counted:?}"));
     }
     let welding = of_segments(&list.segments, list.tol);
@@ -126,6 +135,7 @@ pub fn judge(
     Ok(Right {
         edges: claimed,
         welding,
+        repeats: of_walks(&walked),
         arccosine,
     })
 }
@@ -153,13 +163,16 @@ pub fn loops_are(nodes: &[u32], ends: &[u32], section: &Section) -> bool {
     ends.len() == section.loops.len() && same_ends && same_nodes
 }
 
-/// Holds a stitching against mefikit's on a group.
-pub fn compare(group: &Group, cases: u64, stitch: Stitch) -> Stitchings {
+/// Holds a stitching against mefikit's and another walk on a group, with these values of `strict` in turn.
+pub fn compare(group: &Group, cases: u64, ways: &[u8], stitch: Stitch) -> Stitchings {
     let mut random = Random::new(0x2127_599b_f432_5c37);
     let mut buffers = Buffers::default();
     let mut all = Stitchings::default();
     for case in 0..cases * group.1 / 1000 {
-        let list = (group.2)(&mut random);
+        let list = List {
+            strict: ways[case as usize % ways.len()],
+            ..(group.2)(&mut random)
+        };
         let longer = if case % 2 == 0 {
             [0; 3]
         } else {
@@ -169,6 +182,7 @@ pub fn compare(group: &Group, cases: u64, stitch: Stitch) -> Stitchings {
         if let Ok(right) = &outcome {
             all.edges.add(right.edges);
             all.weldings.count(&right.welding);
+            all.repeated.count(right.repeats);
             if right.arccosine {
                 all.arccosine += 1;
                 all.first_arccosine.get_or_insert_with(|| list.told());
@@ -185,27 +199,102 @@ mod tests {
     use super::*;
     use crate::comparisons::wrong::{counted, right, End, COUNTS};
     use crate::lists::GROUPS;
+    use crate::ways::{wrong::KINDS, STRICT, USUAL};
+    use oracle::walks::{Kind, Walk};
     use oracle::BUILDS;
 
     type Lent<'a> = (&'a mut [f64], &'a mut [u32], &'a mut [u32]);
 
-    /// How many of a group's lists, some thousands or hundreds of them, are seen to differ.
-    fn seen(stitch: Stitch) -> Vec<u64> {
-        let differing = |group: &Group| compare(group, 2_000_000 / group.1, stitch).found.differing;
-        GROUPS[..10].iter().map(differing).collect()
+    /// How many of a group's lists, some thousands or hundreds of them, are seen to differ, for each group but the last.
+    fn seen(ways: &[u8], stitch: Stitch) -> Vec<u64> {
+        let found = |group: &Group| compare(group, 2_000_000 / group.1, ways, stitch).found;
+        let few = GROUPS[..MANY].iter();
+        few.map(|group| found(group).differing).collect()
     }
 
     fn seen_in_each(stitch: Stitch) {
-        let differing = seen(stitch);
-        assert!(differing.iter().all(|&count| count > 0), "{differing:?}");
+        for ways in [USUAL, STRICT] {
+            let differing = seen(ways, stitch);
+            assert!(differing.iter().all(|&count| count > 0), "{differing:?}");
+        }
     }
+
+    /// The group from which on lists are long.
+    const MANY: usize = GROUPS.len() - 3;
 
     #[test]
     fn the_proved_stitching_is_the_rusts() {
-        assert_eq!(seen(ours), [0; 10]);
-        for group in &GROUPS[10..] {
-            assert_eq!(compare(group, 100_000 / group.1, ours).found.differing, 0);
+        for ways in [USUAL, STRICT] {
+            assert_eq!(seen(ways, ours), [0; MANY]);
+            for group in &GROUPS[MANY..] {
+                let found = compare(group, 100_000 / group.1, ways, ours).found;
+                assert_eq!(found.differing, 0, "{:?}", found.first);
+            }
         }
+    }
+
+    /// The proved stitching, with the edges counted by another word on what the walks are.
+    fn decided(list: &List, lent: Lent, kind: fn(&Walked, &Walk) -> Kind) -> Stitched {
+        let walked = Walked::new(&list.segments, list.tol);
+        let edges = walked.edges_by(|walk| kind(&walked, walk));
+        Stitched {
+            in_loops: edges.in_loops,
+            pinched: edges.pinched,
+            flat: edges.flat,
+            opened: edges.open,
+            ..ours(list, lent.0, lent.1, lent.2)
+        }
+    }
+
+    #[test]
+    fn a_walk_of_the_wrong_kind_is_seen() {
+        let wrong: [Stitch; 5] = [
+            |list, a, b, c| decided(list, (a, b, c), KINDS[0]),
+            |list, a, b, c| decided(list, (a, b, c), KINDS[1]),
+            |list, a, b, c| decided(list, (a, b, c), KINDS[2]),
+            |list, a, b, c| decided(list, (a, b, c), KINDS[3]),
+            |list, a, b, c| decided(list, (a, b, c), KINDS[4]),
+        ];
+        let right: Stitch = |list, a, b, c| decided(list, (a, b, c), crate::ways::wrong::right);
+        let sum = |ways, stitch| seen(ways, stitch).iter().sum::<u64>();
+        for stitch in wrong {
+            assert!(sum(STRICT, stitch) > 0);
+        }
+        assert_eq!(sum(STRICT, right), 0);
+        assert!(sum(USUAL, right) > 0);
+    }
+
+    /// A pinched walk returned as in the usual way, and none in the usual way.
+    #[test]
+    fn the_other_way_is_seen() {
+        fn in_way(list: &List, lent: Lent, strict: u8) -> Stitched {
+            let list = List {
+                strict,
+                ..list.clone()
+            };
+            ours(&list, lent.0, lent.1, lent.2)
+        }
+        let usual: Stitch = |list, a, b, c| in_way(list, (a, b, c), 0);
+        let strict: Stitch = |list, a, b, c| in_way(list, (a, b, c), 1);
+        assert!(seen(STRICT, usual).iter().sum::<u64>() > 0);
+        assert!(seen(USUAL, strict).iter().sum::<u64>() > 0);
+    }
+
+    /// In some of the groups: a ring passes no point twice.
+    #[test]
+    fn walks_that_pass_a_point_twice_are_reached() {
+        let mut all = Repeated::default();
+        for group in &GROUPS {
+            all.add(compare(group, 20_000, STRICT, ours).repeated);
+        }
+        let Repeated {
+            pinched,
+            pinched_flat,
+            open,
+            beside_a_loop,
+        } = all;
+        let found = [pinched, pinched_flat, open, beside_a_loop];
+        assert!(found.iter().all(|&many| many > 100), "{found:?}");
     }
 
     #[test]
@@ -252,6 +341,7 @@ mod tests {
         }
         seen_in_each(|list, a, b, c| with(list, (a, b, c), |told| told.listed += 1));
         seen_in_each(|list, a, b, c| with(list, (a, b, c), |told| told.in_loops += 1));
+        seen_in_each(|list, a, b, c| with(list, (a, b, c), |told| told.pinched += 1));
         seen_in_each(|list, a, b, c| with(list, (a, b, c), |told| told.flat += 1));
         seen_in_each(|list, a, b, c| with(list, (a, b, c), |told| told.opened += 1));
         seen_in_each(|list, a, b, c| with(list, (a, b, c), |told| told.comparisons += 1));
@@ -279,7 +369,7 @@ mod tests {
         seen_in_each(|list, a, b, c| recounted(list, (a, b, c), COUNTS[3]));
         seen_in_each(|list, a, b, c| recounted(list, (a, b, c), COUNTS[4]));
         let right: Stitch = |list, a, b, c| recounted(list, (a, b, c), right);
-        assert_eq!(seen(right), [0; 10]);
+        assert_eq!(seen(USUAL, right), [0; MANY]);
     }
 
     #[test]
@@ -298,7 +388,7 @@ mod tests {
 
     #[test]
     fn the_most_and_the_fewest_comparisons_are_reached() {
-        let found = compare(&GROUPS[10], 100_000, ours);
+        let found = compare(&GROUPS[MANY], 100_000, USUAL, ours);
         let weldings = found.weldings;
         assert_eq!(found.found.differing, 0, "{:?}", found.found.first);
         assert!(weldings.most > 100 && weldings.fewest > 100, "{weldings:?}");
@@ -321,11 +411,11 @@ mod tests {
     /// Too short by one, each in turn: refused, and nothing is written.
     #[test]
     fn too_little_room_is_refused() {
-        let list = List {
-            segments: vec![[[0.0, 0.0], [0.0, 1.0]]; 3],
-            tol: 0.0,
-        };
-        for short in 0..3 {
+        for (short, strict) in (0..3).flat_map(|k| [0, 1, 2, 255].map(|way| (k, way))) {
+            let list = List {
+                strict,
+                ..List::new(vec![[[0.0, 0.0], [0.0, 1.0]]; 3], 0.0)
+            };
             let mut lent = [12, 3, 1];
             lent[short] -= 1;
             let (mut points, mut nodes, mut ends) = ([UNTOUCHED; 12], [NODE; 3], [NODE; 1]);

@@ -1,5 +1,5 @@
 //! The rules' worked cases, each with the answer told there, written from its words; and cases of crossings in the middle by
-//! default and of comparisons of points, worked by hand. The comparisons of all cases are worked by hand.
+//! default, of comparisons of points and of the strict way, worked by hand. The comparisons of all cases are worked by hand.
 //!
 //! Case 12, two square roots, is no case of an entry that compares with the Rust: it stands in `roots`.
 
@@ -60,6 +60,20 @@ pub const COMPARISONS: [&str; 8] = [
     "plane cuts of tubes of 16 and 17 walls",
 ];
 
+/// What the cases of the strict way are about. They are numbered on from the last of `COMPARISONS`. The first is case 10 of
+/// docs/RULES.md; beside the strict answer most have the usual one too.
+pub const STRICT: [&str; 9] = [
+    "bow-tie, pinched before flat",
+    "two triangles that share a corner, and one apart",
+    "two triangles on a line that share a corner",
+    "an open walk that passes a point twice",
+    "no walk that passes a point twice",
+    "a hexahedron whose section passes its corner twice",
+    "that hexahedron, its section flat too",
+    "bow-tie, tolerance NaN",
+    "refusals",
+];
+
 /// 2^-1074 and 2^-1022.
 const LEAST: f64 = f64::from_bits(1);
 const LEAST_NORMAL: f64 = f64::MIN_POSITIVE;
@@ -86,6 +100,7 @@ pub fn worked() -> Vec<Worked> {
     all.extend(limits());
     all.extend(by_default());
     all.extend(of_comparisons());
+    all.extend(of_the_strict_way());
     for one in &mut all {
         one.case.lent = room(&one.case);
     }
@@ -413,6 +428,153 @@ fn tube(number: usize, n: u32) -> Worked {
     is(number, case, comparing(comparisons, answer))
 }
 
+/// The walks are those of the usual way. Of a pinched one the edges are counted, and its points stay.
+fn of_the_strict_way() -> Vec<Worked> {
+    let number = |k: usize| NAMES.len() + BY_DEFAULT.len() + COMPARISONS.len() + k;
+    // the ends of two triangles that share their second point: each is new, or the point that its number tells
+    let sum_of_two = || sum(&[0, 1, 2, 2, 3, 3, 4, 2, 2, 4, 5, 1]);
+    let [first, middle, second, third, _, last, _] = bow_tie();
+    let tie = [first, middle, second, third, last];
+    let flat = comparing(sum_of_two(), section(&tie, &[], [6, 0, 6, 0]));
+    let pinched = || comparing(sum_of_two(), pinching(6, section(&tie, &[], [6, 0, 0, 0])));
+    let mut all = vec![is(number(1), stitch(&bow_tie(), 0.0), flat)];
+    for strict in [1, 2, 255] {
+        let case = in_way(strict, stitch(&bow_tie(), 0.0));
+        all.push(is(number(1), case, pinched()));
+    }
+
+    // the walk 0 1 3 2 1 4 has the area -6 as its left part is the larger one, and 5 6 7 has 0.5
+    let [left, right] = [[-4.0, 2.0], [-4.0, -2.0]];
+    let apart = [[9.0, 0.0], [10.0, 0.0], [9.0, 1.0]];
+    let [a, b, c] = apart;
+    let mut list = pairs(&[left, middle, second, third, middle, right, left]);
+    list.extend(pairs(&[a, b, c, a]));
+    let points = [left, middle, second, third, right, a, b, c];
+    let comparisons = sum_of_two() + sum(&[5, 6, 7, 7, 8, 6]);
+    let usual = section(&points, &[&[4, 1, 2, 3, 1, 0], &[5, 6, 7]], [9, 9, 0, 0]);
+    let strict = pinching(6, section(&points, &[&[5, 6, 7]], [9, 3, 0, 0]));
+    all.extend(both_ways(
+        number(2),
+        stitch_list(&list, 0.0),
+        [usual, strict].map(|answer| comparing(comparisons, answer)),
+    ));
+
+    // the walk 0 1 2 3 4 2 goes straight on at (0, 0); all areas are 0
+    let on_x = [1.0, 3.0, 0.0, -1.0, -3.0, 0.0, 1.0].map(|x| [x, 0.0]);
+    let comparisons = sum(&[0, 1, 2, 2, 3, 3, 4, 4, 5, 3, 3, 1]);
+    let usual = section(&on_x[..5], &[], [6, 0, 6, 0]);
+    let strict = pinching(6, section(&on_x[..5], &[], [6, 0, 0, 0]));
+    all.extend(both_ways(
+        number(3),
+        stitch(&on_x, 0.0),
+        [usual, strict].map(|answer| comparing(comparisons, answer)),
+    ));
+
+    // the walk 0 1 2 3 1 4, which ends at another point than it started
+    let [o, a, b, c, d] = [[0.0, 0.0], [1.0, 0.0], [2.0, 0.0], [1.0, 1.0], [1.0, -1.0]];
+    let comparisons = sum(&[0, 1, 2, 2, 3, 3, 4, 2, 2, 4]);
+    let open = || comparing(comparisons, section(&[o, a, b, c, d], &[], [5, 0, 0, 5]));
+    all.extend(both_ways(
+        number(4),
+        stitch(&[o, a, b, c, a, d], 0.0),
+        [open(), open()],
+    ));
+
+    let alike = [5, 6, 7, 9, 2, 4];
+    let others = [cut(), stitched()].concat();
+    let others = others.into_iter().filter(|one| alike.contains(&one.number));
+    for one in others.filter(|one| one.case.entry != Entry::Gather) {
+        all.push(is(number(5), in_way(1, one.case), one.answer));
+    }
+
+    // of the walk 0 1 4 2 1 3 the part to the right has the area 1, the other one -4 or -1
+    let usual = |x| {
+        [section(
+            &touching_points(x),
+            &[&[3, 1, 2, 4, 1, 0]],
+            [6, 6, 0, 0],
+        )]
+    };
+    let flat = |x| [section(&touching_points(x), &[], [6, 0, 6, 0])];
+    let strict = |x| pinching(6, section(&touching_points(x), &[], [6, 0, 0, 0]));
+    let comparisons = sum(&[0, 1, 2, 2, 2, 3, 4, 2, 4, 1, 3, 5]);
+    for (k, x, [usual]) in [(6, 2.0, usual(2.0)), (7, 1.0, flat(1.0))] {
+        let answers = [usual, strict(x)].map(|answer| comparing(comparisons, answer));
+        all.extend(both_ways(number(k), touching(x), answers));
+    }
+
+    // every end is a point of its own
+    let ends: Vec<_> = pairs(&bow_tie()).concat();
+    let comparisons = (0..12).sum();
+    let apart = || comparing(comparisons, section(&ends, &[], [6, 0, 0, 6]));
+    all.extend(both_ways(
+        number(8),
+        stitch(&bow_tie(), f64::NAN),
+        [apart(), apart()],
+    ));
+
+    for strict in [1, 2, 255] {
+        let all_refused = refused_cases()
+            .map(|(case, refusal)| is(number(9), in_way(strict, case), refused(refusal)));
+        all.extend(all_refused);
+    }
+    all
+}
+
+/// The same case in the usual way and in the strict one.
+fn both_ways(number: usize, case: Case, [usual, strict]: [Answer; 2]) -> [Worked; 2] {
+    [
+        is(number, case.clone(), usual),
+        is(number, in_way(1, case), strict),
+    ]
+}
+
+fn in_way(strict: u8, case: Case) -> Case {
+    Case { strict, ..case }
+}
+
+/// Cases that are refused with 1 to 6 and with 8.
+fn refused_cases() -> [(Case, u32); 7] {
+    let half = [0.0, 0.0, 0.5];
+    let spoilt = |spoil: fn(&mut Case)| {
+        let mut case = brick(Entry::Plane, half, UP);
+        spoil(&mut case);
+        case
+    };
+    [
+        (spoilt(|case| case.number = 8), 1),
+        (spoilt(|case| case.conn.push(0)), 2),
+        (spoilt(|case| case.coords.push(0.0)), 3),
+        (spoilt(|case| case.conn[7] = 8), 4),
+        (spoilt(|case| case.origin.push(0.0)), 5),
+        (spoilt(|case| case.vector.fill(0.0)), 6),
+        (stitch(&zigzag(386), 0.0), 8),
+    ]
+}
+
+/// A hexahedron of eight different corners, cut at z = 0 through its corner 0. The edge from 6 to 7 passes through that corner, so
+/// the section is two triangles that share it, the one x times as long as the other. Each face cut gives one segment.
+fn touching(x: f64) -> Case {
+    let (far, wide) = (1.0 - 2.0 * x, 2.0 * x);
+    let corners = [
+        [0.0, 0.0, 0.0],
+        [-1.0, 0.0, -1.0],
+        [far, wide, 1.0],
+        [1.0, -2.0, 1.0],
+        [1.0, 2.0, 1.0],
+        [far, -wide, 1.0],
+        [-1.0, 0.0, 1.0],
+        [1.0, 0.0, -1.0],
+    ];
+    let flat = corners.as_flattened();
+    cell(Entry::Plane, 14, flat, &[0.0; 3], &UP)
+}
+
+/// The points of its section, in the order in which the faces give them.
+fn touching_points(x: f64) -> [[f64; 2]; 5] {
+    [[-x, x], [0.0, 0.0], [1.0, 1.0], [-x, -x], [1.0, -1.0]]
+}
+
 /// The triangle, cut by the axis y = 0, which its normal or its direction gives.
 fn triangle_across(entry: Entry, high: f64, low: [f64; 2]) -> Case {
     let vector = match entry {
@@ -456,6 +618,15 @@ fn with(defaulted: u32, answer: Answer) -> Answer {
 fn comparing(comparisons: u32, answer: Answer) -> Answer {
     let told = Told {
         comparisons,
+        ..answer.told
+    };
+    Answer { told, ..answer }
+}
+
+/// The answer with so many pinched edges.
+fn pinching(pinched: u32, answer: Answer) -> Answer {
+    let told = Told {
+        pinched,
         ..answer.told
     };
     Answer { told, ..answer }
@@ -577,8 +748,12 @@ fn polyhedron(entry: Entry, conn: &[u64]) -> Case {
 
 /// The segments along a chain of points.
 fn stitch(chain: &[[f64; 2]], tol: f64) -> Case {
-    let list: Vec<_> = chain.windows(2).map(|s| [s[0], s[1]]).collect();
-    stitch_list(&list, tol)
+    stitch_list(&pairs(chain), tol)
+}
+
+/// Each two neighbours of a chain of points.
+fn pairs(chain: &[[f64; 2]]) -> Vec<[[f64; 2]; 2]> {
+    chain.windows(2).map(|s| [s[0], s[1]]).collect()
 }
 
 fn stitch_list(list: &[[[f64; 2]; 2]], tol: f64) -> Case {

@@ -1,5 +1,6 @@
 use super::*;
 use counts::{counts, listed, Counts};
+use walks::{repeats, Edges, Walked};
 
 const MAX: usize = usize::MAX;
 const UP: [f64; 3] = [0.0, 0.0, 1.0];
@@ -391,19 +392,50 @@ fn a_sum_from_minus_zero_shows_in_a_zeros_sign() {
     assert_eq!(rules.points[2][1].to_bits(), 0.0f64.to_bits());
 }
 
+/// Segments between points on a grid, so many of them, from a seed.
+fn on_a_grid(seed: &mut u64, many: usize) -> Vec<Segment<2>> {
+    let mut next = || {
+        *seed = seed
+            .wrapping_mul(6364136223846793005)
+            .wrapping_add(1442695040888963407);
+        ((*seed >> 40) % 9) as f64 / 4.0
+    };
+    let mut end = || [next(), next()];
+    (0..many).map(|_| [end(), end()]).collect()
+}
+
+/// In the usual way the other walk gives the Rust's points and loops. In the strict way it gives those in which no point
+/// stands twice; points, open edges and all listed ones stay, and pinched edges were in loops or flat.
+#[test]
+fn the_other_walk_gives_the_rusts_loops() {
+    let mut seed = 7u64;
+    let mut pinched = 0;
+    for many in (0..60).cycle().take(1200) {
+        let segments = on_a_grid(&mut seed, many);
+        for tol in [0.0, 0.25, 0.3, 1.0] {
+            let walked = Walked::new(&segments, tol);
+            let mut rules = stitch(Build::ByRules, &segments, tol);
+            assert_eq!(walked.section(false), rules);
+            rules.loops.retain(|nodes| !repeats(nodes));
+            assert_eq!(walked.section(true), rules);
+            let [usual, strict] = [false, true].map(|way| walked.edges(way));
+            let returned: usize = rules.loops.iter().map(Vec::len).sum();
+            assert_eq!((strict.in_loops, usual.pinched), (returned, 0));
+            let moved = usual.in_loops + usual.flat - strict.in_loops - strict.flat;
+            assert_eq!(moved, strict.pinched);
+            let same = |edges: Edges| (edges.listed, edges.open);
+            assert_eq!(same(usual), same(strict));
+            pinched += usize::from(strict.pinched > 0);
+        }
+    }
+    assert!(pinched > 200, "{pinched}");
+}
+
 #[test]
 fn welding_again_gives_the_same_points() {
     let mut seed = 7u64;
-    let mut next = || {
-        seed = seed
-            .wrapping_mul(6364136223846793005)
-            .wrapping_add(1442695040888963407);
-        ((seed >> 40) % 9) as f64 / 4.0
-    };
     for tol in [0.0, 0.25, 0.3, 1.0] {
-        let segments: Vec<Segment<2>> = (0..60)
-            .map(|_| [[next(), next()], [next(), next()]])
-            .collect();
+        let segments = on_a_grid(&mut seed, 60);
         assert_eq!(
             stitch(Build::Rust, &segments, tol).points,
             listed(&segments, tol).0

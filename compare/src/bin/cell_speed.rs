@@ -32,6 +32,11 @@ fn main() {
     compared("tetrahedron, a triangle", 500_000, &tetrahedron(at(0.25)));
     compared("tetrahedron, missed", 1_000_000, &tetrahedron(at(2.0)));
     compared("brick, a square", 500_000, &brick(at(0.5), UP));
+    compared(
+        "the same in the strict way",
+        500_000,
+        &strict(brick(at(0.5), UP)),
+    );
     compared("brick, a hexagon", 500_000, &brick(middle, [1.0; 3]));
     let gathered = |number, coords: &[f64], z| cell(Entry::Gather, number, coords, &at(z), &UP);
     let tetrahedron = gathered(12, &TETRAHEDRON, 0.25);
@@ -53,6 +58,11 @@ fn main() {
     let square = cell(Entry::PlaneCellByNormal, 8, &SQUARE, &[0.5; 2], &[0.0, 1.0]);
     compared("quadrilateral by normal", 1_000_000, &square);
     compared("384 segments stitched", 4_000, &ring(384));
+    compared("the same in the strict way", 4_000, &strict(ring(384)));
+}
+
+fn strict(case: Case) -> Case {
+    Case { strict: 1, ..case }
 }
 
 /// A cell whose nodes are all rows in their order, with the tolerance of its mesh.

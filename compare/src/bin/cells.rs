@@ -1,8 +1,10 @@
 //! Holds the entries of Cicelybeam's interface against mefikit's Rust and the rules' refusals, but gathering, which
-//! `gathering` does. The number is that of plane cuts; every other entry has a quarter of it.
+//! `gathering` does. The number is that of plane cuts in each way; every other entry has a quarter of it. The strict way is held
+//! against another walk.
 
 use compare::cutting::{compare, compare_refusals, Reached};
 use compare::entries::{ours, Entry};
+use compare::ways::{STRICT, USUAL};
 use compare::{cases_asked, refused_by};
 use std::process::ExitCode;
 use std::time::Instant;
@@ -12,14 +14,20 @@ const FULL: u64 = 400_000;
 /// How often each set of refusals is made for each type.
 const TURNS: u64 = 4;
 
-const ENTRIES: [(Entry, &str); 7] = [
-    (Entry::Plane, "space cells cut by a plane"),
-    (Entry::LineInSpace, "space cells cut by a line"),
-    (Entry::PlaneCellByNormal, "plane cells cut by normal"),
-    (Entry::PlaneCellByDirection, "plane cells cut by direction"),
-    (Entry::Stitch, "lists stitched"),
-    (Entry::ToleranceInSpace, "tolerances in space"),
-    (Entry::ToleranceInPlane, "tolerances in the plane"),
+const ENTRIES: [(Entry, &[u8], &str); 9] = [
+    (Entry::Plane, USUAL, "space cells cut by a plane"),
+    (Entry::Plane, STRICT, "the same in the strict way"),
+    (Entry::LineInSpace, USUAL, "space cells cut by a line"),
+    (Entry::PlaneCellByNormal, USUAL, "plane cells cut by normal"),
+    (
+        Entry::PlaneCellByDirection,
+        USUAL,
+        "plane cells cut by direction",
+    ),
+    (Entry::Stitch, USUAL, "lists stitched"),
+    (Entry::Stitch, STRICT, "the same in the strict way"),
+    (Entry::ToleranceInSpace, USUAL, "tolerances in space"),
+    (Entry::ToleranceInPlane, USUAL, "tolerances in the plane"),
 ];
 
 fn main() -> ExitCode {
@@ -27,20 +35,20 @@ fn main() -> ExitCode {
     let start = Instant::now();
     let mut differing = 0;
     println!("entries, with the bits of the rules, NaN alike, and alike to the Rust's:");
-    for (entry, name) in ENTRIES {
+    for (entry, ways, name) in ENTRIES {
         let cases = if entry == Entry::Plane {
             cases
         } else {
             cases / 4
         };
-        let reached = compare(entry, cases, ours);
+        let reached = compare(entry, cases, ways, ours);
         reached.found.print(name, "give some");
         print_reached(&reached);
         differing += reached.found.differing;
     }
     println!("each set of refusals for each type, of which the first must be told:");
-    for (entry, name) in ENTRIES {
-        let found = compare_refusals(entry, TURNS, ours);
+    for (entry, ways, name) in ENTRIES {
+        let found = compare_refusals(entry, TURNS, ways, ours);
         found.print(name, "are refused");
         differing += found.differing;
     }
@@ -61,10 +69,11 @@ fn print_reached(reached: &Reached) {
     let edges = reached.edges;
     if edges.listed > 0 {
         line(format!(
-            "{} loops; {} edges listed: {} in loops, {} flat (in {} answers), {} open (in {})",
+            "{} loops; {} edges listed: {} in loops, {} pinched, {} flat (in {} answers), {} open (in {})",
             reached.loops,
             edges.listed,
             edges.in_loops,
+            edges.pinched,
             edges.flat,
             reached.with_flat,
             edges.open,
@@ -76,6 +85,11 @@ fn print_reached(reached: &Reached) {
     }
     if reached.weldings.comparisons > 0 {
         reached.weldings.print();
+        reached.repeated.print();
+        let pinched = reached.pinched.told();
+        if !pinched.is_empty() {
+            line(format!("of these closed walks, by type: {pinched}"));
+        }
     }
     if reached.arccosine > 0 {
         line(format!(

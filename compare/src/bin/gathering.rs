@@ -1,8 +1,9 @@
 //! Holds gathering against mefikit's Rust and the rules' refusals, and on the same cells gathering, then stitching,
-//! against the plane cut. The number is that of cells.
+//! against the plane cut, in the usual way and in the strict one in turn. The number is that of cells.
 
 use compare::cutting::compare_refusals;
 use compare::entries::{ours, Entry};
+use compare::ways::USUAL;
 use compare::{cases_asked, gathering, refused_by};
 use std::process::ExitCode;
 use std::time::Instant;
@@ -24,7 +25,7 @@ fn main() -> ExitCode {
     line(refused_by(&reached.refused));
     reached.cuts.print();
     println!("each set of refusals for each type, of which the first must be told:");
-    let refusals = compare_refusals(Entry::Gather, TURNS, ours);
+    let refusals = compare_refusals(Entry::Gather, TURNS, USUAL, ours);
     refusals.print("space cells gathered", "are refused");
     println!("gathered and stitched beside the plane cut, and cells beside their faces, to the bit, NaN alike:");
     let gathered = gathering::compare(cases, ours);

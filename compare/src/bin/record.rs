@@ -9,7 +9,8 @@ use compare::numbers::alike;
 use compare::random::Random;
 use compare::recorded::{file, root_words, words, Group};
 use compare::roots::{sample, GROUPS};
-use compare::worked::{roots, worked_in_all_buffers, Worked, BY_DEFAULT, COMPARISONS, NAMES};
+use compare::worked::{roots, worked_in_all_buffers, Worked};
+use compare::worked::{BY_DEFAULT, COMPARISONS, NAMES, STRICT};
 use compare::wrong::wrong;
 use oracle::Build;
 use std::process::ExitCode;
@@ -71,8 +72,8 @@ fn main() -> ExitCode {
     ExitCode::from(u8::from(differing > 0))
 }
 
-/// The worked cases by their number, and those of crossings in the middle by default and of comparisons of points by their
-/// name. Case 12, two square roots, has none here.
+/// The worked cases by their number, and those of crossings in the middle by default, of comparisons of points and of the strict
+/// way by their name. Case 12, two square roots, has none here.
 fn cases_worked() -> Vec<(String, Vec<Right>)> {
     let all = worked_in_all_buffers();
     let of = |number| {
@@ -85,6 +86,7 @@ fn cases_worked() -> Vec<(String, Vec<Right>)> {
     for (about, names) in [
         ("by default", &BY_DEFAULT[..]),
         ("comparisons", &COMPARISONS),
+        ("strict", &STRICT),
     ] {
         let first = named.len() + 1;
         let name = |(k, name)| (format!("{about}, {name}"), of(first + k));

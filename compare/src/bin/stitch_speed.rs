@@ -1,4 +1,4 @@
-//! Prints nanoseconds a list stitched, the proved stitching beside the Rust's, in one run.
+//! Prints nanoseconds a list stitched, the proved stitching in both ways beside the Rust's, in one run.
 
 use compare::lists::List;
 use compare::nanoseconds;
@@ -7,7 +7,7 @@ use compare::stitching::ours;
 use std::hint::black_box;
 
 fn main() {
-    println!("nanoseconds a list                proved     Rust");
+    println!("nanoseconds a list                proved   strict     Rust  strict/proved");
     compared("the brick's 4 segments", 1_000_000, &brick());
     compared("ring of 24", 200_000, &ring(24));
     compared("ring of 96", 40_000, &ring(96));
@@ -18,10 +18,8 @@ fn main() {
 /// The segments of the unit cube cut at half its height.
 fn brick() -> List {
     let corners = [[0.0, 0.0], [1.0, 0.0], [1.0, 1.0], [0.0, 1.0]];
-    List {
-        segments: (0..4).map(|k| [corners[k], corners[(k + 1) % 4]]).collect(),
-        tol: 1e-12,
-    }
+    let sides = (0..4).map(|k| [corners[k], corners[(k + 1) % 4]]);
+    List::new(sides.collect(), 1e-12)
 }
 
 /// A ring of this many segments, in their order.
@@ -30,10 +28,8 @@ fn ring(n: usize) -> List {
         let angle = std::f64::consts::TAU * (k % n) as f64 / n as f64;
         [angle.cos(), angle.sin()]
     };
-    List {
-        segments: (0..n).map(|k| [corner(k), corner(k + 1)]).collect(),
-        tol: 1e-12,
-    }
+    let sides = (0..n).map(|k| [corner(k), corner(k + 1)]);
+    List::new(sides.collect(), 1e-12)
 }
 
 /// The same, in another order.
@@ -46,13 +42,23 @@ fn shuffled(n: usize) -> List {
 fn compared(name: &str, rounds: u32, list: &List) {
     let s = list.segments.len();
     let (mut points, mut nodes, mut ends) = (vec![0.0; 4 * s], vec![0; s], vec![0; s / 3]);
-    assert_eq!(ours(list, &mut points, &mut nodes, &mut ends).in_loops, s);
-    let proved = nanoseconds(rounds, || {
-        ours(black_box(list), &mut points, &mut nodes, &mut ends)
+    let mut timed = |list: &List| {
+        assert_eq!(ours(list, &mut points, &mut nodes, &mut ends).in_loops, s);
+        nanoseconds(rounds, || {
+            ours(black_box(list), &mut points, &mut nodes, &mut ends)
+        })
+    };
+    let proved = timed(list);
+    let strict = timed(&List {
+        strict: 1,
+        ..list.clone()
     });
     let rust = nanoseconds(rounds, || {
         let list = black_box(list);
         oracle::rust::reach::stitch_segments(&list.segments, list.tol)
     });
-    println!("{name:<32} {proved:>7.1}  {rust:>7.1}");
+    println!(
+        "{name:<32} {proved:>7.1}  {strict:>7.1}  {rust:>7.1}  {:>13.2}",
+        strict / proved
+    );
 }

@@ -1,9 +1,10 @@
-//! Holds the proved stitching against mefikit's, and its counts against another walk. The number is that of
-//! lists.
+//! Holds the proved stitching against mefikit's in the usual way, and its counts and the strict way against another walk. The
+//! number is that of lists in each way.
 
 use compare::cases_asked;
 use compare::lists::GROUPS;
 use compare::stitching::{compare, ours, Stitchings};
+use compare::ways::{STRICT, USUAL};
 use std::process::ExitCode;
 use std::time::Instant;
 
@@ -13,25 +14,42 @@ fn main() -> ExitCode {
     let cases = cases_asked("stitching", FULL);
     let start = Instant::now();
     println!("lists stitched, with the bits of the rules, NaN alike, and alike to the Rust's:");
+    let usual = of_all_groups(cases, USUAL);
+    println!(
+        "the same in the strict way, the Rust's loops being those in which no point stands twice:"
+    );
+    let strict = of_all_groups(cases, STRICT);
+    let differing = usual + strict;
+    println!(
+        "{:.1} seconds, {differing} differ",
+        start.elapsed().as_secs_f64()
+    );
+    ExitCode::from(u8::from(differing > 0))
+}
+
+/// Prints what the comparison found with these values of `strict`, and gives how many lists differ.
+fn of_all_groups(cases: u64, ways: &[u8]) -> u64 {
     let mut all = Stitchings::default();
     for group in &GROUPS {
-        let group_found = compare(group, cases, ours);
+        let group_found = compare(group, cases, ways, ours);
         group_found.found.print(group.0, "have loops");
         all.found.cases += group_found.found.cases;
         all.found.giving += group_found.found.giving;
         all.found.differing += group_found.found.differing;
         all.edges.add(group_found.edges);
         all.weldings.add(&group_found.weldings);
+        all.repeated.add(group_found.repeated);
         all.arccosine += group_found.arccosine;
         all.first_arccosine = all.first_arccosine.or(group_found.first_arccosine);
     }
     all.found.print("lists in all", "have loops");
     let edges = all.edges;
     println!(
-        "{:>10} edges listed: {} in loops, {} flat, {} open",
-        edges.listed, edges.in_loops, edges.flat, edges.open
+        "{:>10} edges listed: {} in loops, {} pinched, {} flat, {} open",
+        edges.listed, edges.in_loops, edges.pinched, edges.flat, edges.open
     );
     all.weldings.print();
+    all.repeated.print();
     println!(
         "{:>10} lists on which the Rust, comparing arccosines, goes another way than with cosines",
         all.arccosine
@@ -39,10 +57,5 @@ fn main() -> ExitCode {
     if let Some(first) = all.first_arccosine {
         println!("           first: {first}");
     }
-    println!(
-        "{:.1} seconds, {} differ",
-        start.elapsed().as_secs_f64(),
-        all.found.differing
-    );
-    ExitCode::from(u8::from(all.found.differing > 0))
+    all.found.differing
 }

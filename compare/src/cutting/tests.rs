@@ -1,9 +1,10 @@
 use super::*;
-use crate::answers::room;
+use crate::answers::{given, room};
 use crate::comparisons::wrong::{counted, right, End, COUNTS};
-use crate::comparisons::{gathered, segments};
-use crate::entries::ours;
+use crate::entries::{by_c, ours};
+use crate::ways::{ways, wrong::KINDS, STRICT, USUAL};
 use crate::worked::{worked_in_all_buffers, Worked};
+use oracle::walks::{Kind, Walk};
 use oracle::BUILDS;
 
 const ENTRIES: [Entry; 8] = Entry::ALL;
@@ -17,15 +18,22 @@ const CUTS: [Entry; 6] = [
 ];
 const SECTIONS: [Entry; 2] = [Entry::Plane, Entry::Stitch];
 
-/// A wrong cut is seen with each of these entries.
+/// A wrong cut is seen with each of these entries, in each way.
 fn seen(entries: &[Entry], cut: Cut) {
     seen_among(3_000, entries, cut);
 }
 
 fn seen_among(cases: u64, entries: &[Entry], cut: Cut) {
     for &entry in entries {
-        assert!(compare(entry, cases, cut).found.differing > 0, "{entry:?}");
+        for way in ways(entry) {
+            seen_in(way, entry, cases, cut);
+        }
     }
+}
+
+fn seen_in(way: &[u8], entry: Entry, cases: u64, cut: Cut) {
+    let found = compare(entry, cases, way, cut).found;
+    assert!(found.differing > 0, "{entry:?} {way:?}");
 }
 
 /// The linked function, told otherwise afterwards.
@@ -53,10 +61,52 @@ fn rewritten(case: &Case, lent: Lent, wrong: fn(&Told, &mut Lent)) -> Told {
 #[test]
 fn the_linked_entries_are_the_rusts() {
     for entry in ENTRIES {
-        let found = compare(entry, 3_000, ours).found;
+        for way in ways(entry) {
+            let found = compare(entry, 3_000, way, ours).found;
+            assert_eq!(found.differing, 0, "{:?}", found.first);
+            let found = compare_refusals(entry, 1, way, ours);
+            assert_eq!(found.differing, 0, "{:?}", found.first);
+        }
+    }
+}
+
+/// The crate's functions, which hand over 0 and 1, and C's.
+#[test]
+fn both_call_the_same() {
+    for entry in SECTIONS {
+        let found = compare(entry, 3_000, &[0, 1, 2, 255], by_c).found;
         assert_eq!(found.differing, 0, "{:?}", found.first);
-        let found = compare_refusals(entry, 1, ours);
-        assert_eq!(found.differing, 0, "{:?}", found.first);
+    }
+}
+
+/// The same answer whatever stands for yes, and beside that of the usual way the same refusal, points, listed and open edges,
+/// crossings in the middle by default and comparisons of points.
+#[test]
+fn every_yes_is_alike() {
+    let common = |told: Told| Told {
+        nodes: 0,
+        loops: 0,
+        in_loops: 0,
+        pinched: 0,
+        flat: 0,
+        ..told
+    };
+    for entry in SECTIONS {
+        let mut random = Random::new(1);
+        for _ in 0..3_000 {
+            let case = any_case(&mut random, entry);
+            let in_way = |strict| {
+                let case = Case {
+                    strict,
+                    ..case.clone()
+                };
+                given(&case, ours)
+            };
+            let [usual, one, two, most] = [0, 1, 2, 255].map(in_way);
+            assert!(one.is(&two, same) && one.is(&most, same), "{}", case.told());
+            assert_eq!(common(usual.told), common(one.told), "{}", case.told());
+            assert!(agree(same, &usual.numbers, &one.numbers));
+        }
     }
 }
 
@@ -71,54 +121,78 @@ fn the_worked_cases_are_the_rusts() {
     }
 }
 
-/// Random cases have each refusal of their entry, each type, flat and open walks.
+/// Random cases have each refusal of their entry, each type, flat and open walks, and walks that pass a point twice.
 #[test]
 fn everything_is_reached() {
     for entry in ENTRIES {
-        let reached = compare(entry, 20_000, ours);
-        for &number in refusals(entry) {
-            assert!(reached.refused[number as usize] > 0, "{entry:?} {number}");
-        }
-        if CUTS[..5].contains(&entry) {
-            let mut types = entry.types();
-            assert!(
-                types.all(|number| reached.giving.of(number) > 0),
-                "{entry:?}"
-            );
-        }
-        let cuts = reached.cuts;
-        if CUTS[..5].contains(&entry) {
-            assert!(cuts.defaulted > 20_000 / 50, "{entry:?} {cuts:?}");
-            let kinds = [
-                cuts.nan,
-                cuts.less,
-                cuts.least_normal,
-                cuts.more,
-                cuts.infinite,
-            ];
-            let odd = [cuts.negative_tolerance, cuts.giving_nothing];
-            assert!(
-                kinds.iter().chain(&odd).all(|&many| many > 10),
-                "{entry:?} {cuts:?}"
-            );
-        } else {
-            assert_eq!(cuts.defaulted, 0, "{entry:?}");
-        }
-        assert_eq!(cuts.of_both > 0, entry == Entry::LineInSpace);
-        let weldings = reached.weldings;
-        if SECTIONS.contains(&entry) {
-            assert!(reached.with_flat > 0 && reached.with_open > 0, "{entry:?}");
-            assert!(weldings.most > 10, "{entry:?} {weldings:?}");
-            assert!(weldings.several > weldings.most + weldings.fewest);
-        } else {
-            assert_eq!(weldings.comparisons, 0, "{entry:?}");
-        }
-        if entry == Entry::Stitch {
-            assert!(weldings.fewest > 10, "{weldings:?}");
-            assert_eq!(weldings.greatest.comparisons, 294_528);
+        for way in ways(entry) {
+            reached_in(way, entry);
         }
     }
-    assert!(compare(Entry::Plane, 20_000, ours).unlisted.all > 0);
+    let unlisted = compare(Entry::Plane, 20_000, USUAL, ours).unlisted;
+    assert!(unlisted.all > 0);
+}
+
+fn reached_in(way: &[u8], entry: Entry) {
+    let reached = compare(entry, 20_000, way, ours);
+    for &number in refusals(entry) {
+        assert!(reached.refused[number as usize] > 0, "{entry:?} {number}");
+    }
+    if CUTS[..5].contains(&entry) {
+        let mut types = entry.types();
+        assert!(
+            types.all(|number| reached.giving.of(number) > 0),
+            "{entry:?}"
+        );
+    }
+    let cuts = reached.cuts;
+    if CUTS[..5].contains(&entry) {
+        assert!(cuts.defaulted > 20_000 / 50, "{entry:?} {cuts:?}");
+        let kinds = [
+            cuts.nan,
+            cuts.less,
+            cuts.least_normal,
+            cuts.more,
+            cuts.infinite,
+        ];
+        let odd = [cuts.negative_tolerance, cuts.giving_nothing];
+        assert!(
+            kinds.iter().chain(&odd).all(|&many| many > 10),
+            "{entry:?} {cuts:?}"
+        );
+    } else {
+        assert_eq!(cuts.defaulted, 0, "{entry:?}");
+    }
+    assert_eq!(cuts.of_both > 0, entry == Entry::LineInSpace);
+    let weldings = reached.weldings;
+    if SECTIONS.contains(&entry) {
+        assert!(reached.with_flat > 0 && reached.with_open > 0, "{entry:?}");
+        assert!(weldings.most > 10, "{entry:?} {weldings:?}");
+        assert!(weldings.several > weldings.most + weldings.fewest);
+        let Repeated {
+            pinched,
+            pinched_flat,
+            open,
+            beside_a_loop,
+        } = reached.repeated;
+        let repeated = [pinched, pinched_flat, open, beside_a_loop];
+        assert!(
+            repeated.iter().all(|&many| many > 10),
+            "{entry:?} {repeated:?}"
+        );
+        assert_eq!(reached.edges.pinched > 0, way == STRICT);
+        let hexahedra = [14, 15].map(|number| reached.pinched.of(number));
+        assert_eq!(
+            hexahedra.iter().all(|&many| many > 50),
+            entry == Entry::Plane
+        );
+    } else {
+        assert_eq!(weldings.comparisons, 0, "{entry:?}");
+    }
+    if entry == Entry::Stitch {
+        assert!(weldings.fewest > 10, "{weldings:?}");
+        assert_eq!(weldings.greatest.comparisons, 294_528);
+    }
 }
 
 #[test]
@@ -137,6 +211,9 @@ fn a_wrong_count_is_seen() {
     });
     seen(&SECTIONS, |case, lent| {
         retold(case, lent, |told| told.in_loops += 1)
+    });
+    seen(&SECTIONS, |case, lent| {
+        retold(case, lent, |told| told.pinched += 1)
     });
     // flat edges told as open
     seen(&SECTIONS, |case, lent| {
@@ -188,7 +265,7 @@ fn a_wrong_count_of_crossings_is_seen() {
         recounted(case, lent, |c| c.on_loops)
     });
     assert_eq!(
-        compare(Entry::LineInSpace, 3_000, |case, lent| {
+        compare(Entry::LineInSpace, 3_000, USUAL, |case, lent| {
             recounted(case, lent, Crossings::defaulted)
         })
         .found
@@ -201,11 +278,7 @@ fn a_wrong_count_of_crossings_is_seen() {
 fn compared(case: &Case, lent: Lent, of_end: fn(&End) -> usize) -> Told {
     let mut told = ours(case, lent);
     if told.refusal == 0 && SECTIONS.contains(&case.entry) {
-        let list = match case.entry {
-            Entry::Plane => gathered(case),
-            _ => segments(&case.segments),
-        };
-        told.comparisons = counted(&list, case.tol, of_end) as u32;
+        told.comparisons = counted(&stitched(case), case.tol, of_end) as u32;
     }
     told
 }
@@ -221,8 +294,62 @@ fn a_wrong_count_of_comparisons_is_seen() {
     seen(&SECTIONS, |case, lent| compared(case, lent, COUNTS[3]));
     seen(&SECTIONS, |case, lent| compared(case, lent, COUNTS[4]));
     for entry in SECTIONS {
-        let found = compare(entry, 3_000, |case, lent| compared(case, lent, right));
-        assert_eq!(found.found.differing, 0, "{entry:?}");
+        let right: Cut = |case, lent| compared(case, lent, right);
+        let found = compare(entry, 3_000, USUAL, right).found;
+        assert_eq!(found.differing, 0, "{entry:?}");
+    }
+}
+
+/// The linked function, with the edges of a section counted by another word on what its walks are.
+fn decided(case: &Case, lent: Lent, kind: fn(&Walked, &Walk) -> Kind) -> Told {
+    let mut told = ours(case, lent);
+    if told.refusal == 0 {
+        let walked = Walked::new(&stitched(case), case.tol);
+        let edges = walked.edges_by(|walk| kind(&walked, walk));
+        told.in_loops = edges.in_loops as u32;
+        told.pinched = edges.pinched as u32;
+        told.flat = edges.flat as u32;
+        told.open = edges.open as u32;
+    }
+    told
+}
+
+#[test]
+fn a_walk_of_the_wrong_kind_is_seen() {
+    let wrong: [Cut; 5] = [
+        |case, lent| decided(case, lent, KINDS[0]),
+        |case, lent| decided(case, lent, KINDS[1]),
+        |case, lent| decided(case, lent, KINDS[2]),
+        |case, lent| decided(case, lent, KINDS[3]),
+        |case, lent| decided(case, lent, KINDS[4]),
+    ];
+    let right: Cut = |case, lent| decided(case, lent, crate::ways::wrong::right);
+    for entry in SECTIONS {
+        for cut in wrong {
+            seen_in(STRICT, entry, 3_000, cut);
+        }
+        let found = compare(entry, 3_000, STRICT, right).found;
+        assert_eq!(found.differing, 0, "{:?}", found.first);
+        // pinched in the usual way
+        seen_in(USUAL, entry, 3_000, right);
+    }
+}
+
+/// The usual way in place of the strict one, also where `strict` is above 1 alone, and the strict one in place of the usual.
+#[test]
+fn the_other_way_is_seen() {
+    fn in_way(case: &Case, lent: Lent, strict: u8) -> Told {
+        let case = Case {
+            strict,
+            ..case.clone()
+        };
+        ours(&case, lent)
+    }
+    for entry in SECTIONS {
+        seen_in(STRICT, entry, 3_000, |case, lent| in_way(case, lent, 0));
+        let one_alone: Cut = |case, lent| in_way(case, lent, u8::from(case.strict == 1));
+        seen_in(&STRICT[1..], entry, 3_000, one_alone);
+        seen_in(USUAL, entry, 3_000, |case, lent| in_way(case, lent, 1));
     }
 }
 
@@ -270,6 +397,11 @@ fn a_refusal_that_tells_more_is_seen() {
     seen(&CUTS, |case, lent| {
         let mut told = ours(case, lent);
         told.comparisons += u32::from(told.refusal > 0);
+        told
+    });
+    seen(&SECTIONS, |case, lent| {
+        let mut told = ours(case, lent);
+        told.pinched += u32::from(told.refusal > 0);
         told
     });
 }
@@ -410,7 +542,10 @@ fn another_order_of_refusals_is_seen() {
     ];
     for cut in wrong {
         for entry in &CUTS[..5] {
-            assert!(compare_refusals(*entry, 1, cut).differing > 0, "{entry:?}");
+            assert!(
+                compare_refusals(*entry, 1, USUAL, cut).differing > 0,
+                "{entry:?}"
+            );
         }
     }
     // stitching that tests 7 before 8
@@ -422,7 +557,7 @@ fn another_order_of_refusals_is_seen() {
         }
         told
     };
-    assert!(compare_refusals(Entry::Stitch, 4, short_first).differing > 0);
+    assert!(compare_refusals(Entry::Stitch, 4, STRICT, short_first).differing > 0);
 }
 
 /// Refusal 7 for buffers that fit exactly, and none for those that lack one place.
