@@ -39,7 +39,8 @@ pub struct Right {
     pub repeats: Repeats,
 }
 
-/// Holds an answer against mefikit's on one case, and in the strict way against another walk's.
+/// Holds an answer against mefikit's on one case. mefikit has no strict way: there the loops are those by the rules in which no
+/// point stands twice, and the Rust as it stands is not asked. In both ways they are another walk's.
 pub fn judge(case: &Case, cut: Cut, buffers: &mut Buffers) -> Result<Right, String> {
     let Buffers {
         numbers,
@@ -84,7 +85,8 @@ pub fn judge(case: &Case, cut: Cut, buffers: &mut Buffers) -> Result<Right, Stri
         let other = answer(case, build);
         agree(alike, numbers, &other.numbers) && nodes == other.nodes && ends == other.ends
     };
-    let arccosine = !is(Build::Rust);
+    let strict = case.strict != 0;
+    let arccosine = !strict && !is(Build::Rust);
     let right = match case.entry {
         // gathering walks along no edge, so every build has to agree
         Entry::Gather => !arccosine && is(Build::ByCosine),
@@ -98,7 +100,7 @@ pub fn judge(case: &Case, cut: Cut, buffers: &mut Buffers) -> Result<Right, Stri
         _ => Default::default(),
     };
     let walked = Walked::new(&list, case.tol);
-    if !loops_are(nodes, ends, &walked.section(case.strict != 0)) {
+    if !loops_are(nodes, ends, &walked.section(strict)) {
         return wrong("another walk gives other loops");
     }
     let welding = of_segments(&list, case.tol);

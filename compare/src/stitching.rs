@@ -55,7 +55,7 @@ pub struct Right {
 }
 
 /// Holds a stitching against mefikit's and another walk on one list, in exact buffers or longer ones. mefikit has no strict way:
-/// there its loops are those in which no point stands twice.
+/// there the loops are those by the rules in which no point stands twice, and the Rust as it stands is not asked.
 pub fn judge(
     list: &List,
     stitch: Stitch,
@@ -104,12 +104,15 @@ pub fn judge(
     if !same_points || !loops_are(nodes, ends, &rules) {
         return wrong("differs from the rules");
     }
-    let rust = oracle::stitch(Build::Rust, &list.segments, list.tol);
-    let cosine = oracle::stitch(Build::ByCosine, &list.segments, list.tol);
-    let arccosine = rust.loops != cosine.loops;
-    let alike_points = agree(alike, points, rust.points.as_flattened());
-    if !alike_points || !(strict || arccosine || loops_are(nodes, ends, &rust)) {
-        return wrong("differs from the Rust");
+    let mut arccosine = false;
+    if !strict {
+        let rust = oracle::stitch(Build::Rust, &list.segments, list.tol);
+        let cosine = oracle::stitch(Build::ByCosine, &list.segments, list.tol);
+        arccosine = rust.loops != cosine.loops;
+        let alike_points = agree(alike, points, rust.points.as_flattened());
+        if !alike_points || !(arccosine || loops_are(nodes, ends, &rust)) {
+            return wrong("differs from the Rust");
+        }
     }
     let walked = Walked::new(&list.segments, list.tol);
     if walked.section(strict).loops != rules.loops {

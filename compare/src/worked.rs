@@ -554,7 +554,7 @@ fn refused_cases() -> [(Case, u32); 7] {
 
 /// A hexahedron of eight different corners, cut at z = 0 through its corner 0. The edge from 6 to 7 passes through that corner, so
 /// the section is two triangles that share it, the one x times as long as the other. Each face cut gives one segment.
-fn touching(x: f64) -> Case {
+pub fn touching(x: f64) -> Case {
     let (far, wide) = (1.0 - 2.0 * x, 2.0 * x);
     let corners = [
         [0.0, 0.0, 0.0],

@@ -3,7 +3,7 @@
 use crate::answers::{answer, room, Answer};
 use crate::entries::{Case, Entry};
 use crate::recorded::{root_words, words};
-use crate::worked::{brick, square};
+use crate::worked::{brick, square, touching};
 use oracle::Build;
 
 /// What is made wrong in an answer.
@@ -15,14 +15,39 @@ const DEFAULTED: Spoil = |a| a.told.defaulted += 1;
 /// One comparison of points too many, and one too few.
 const COMPARISONS: [Spoil; 2] = [|a| a.told.comparisons += 1, |a| a.told.comparisons -= 1];
 
+/// A pinched edge too many.
+const PINCHED: Spoil = |a| a.told.pinched += 1;
+
+/// Of a section with a pinched walk: its edges told as flat, and as in loops; and the walk returned as a loop, which the
+/// usual way does.
+const OF_THE_STRICT_WAY: [Spoil; 3] = [
+    |a| {
+        a.told.flat += a.told.pinched;
+        a.told.pinched = 0;
+    },
+    |a| {
+        a.told.in_loops += a.told.pinched;
+        a.told.pinched = 0;
+    },
+    |a| {
+        let section = touching(2.0);
+        let fitting = Case {
+            lent: room(&section),
+            ..section
+        };
+        *a = answer(&fitting, Build::Counted);
+    },
+];
+
 /// Each thing that is compared.
-const THINGS: [Spoil; 19] = [
+const THINGS: [Spoil; 20] = [
     |a| a.told.refusal += 1,
     |a| a.told.points += 1,
     |a| a.told.nodes += 1,
     |a| a.told.loops += 1,
     |a| a.told.listed += 1,
     |a| a.told.in_loops += 1,
+    PINCHED,
     |a| a.told.flat += 1,
     |a| a.told.open += 1,
     DEFAULTED,
@@ -41,7 +66,8 @@ const THINGS: [Spoil; 19] = [
     |a| a.ends.clear(),
 ];
 
-/// Records of the brick's section with each thing wrong, and of every other entry with each number of the answer wrong.
+/// Records of the brick's section with each thing wrong, of a section with a pinched walk, and of every other entry with each
+/// number of the answer wrong.
 pub fn wrong() -> Vec<Vec<u64>> {
     let up = [0.0, 0.0, 1.0];
     let section = brick(Entry::Plane, [0.0, 0.0, 0.5], up);
@@ -61,8 +87,13 @@ pub fn wrong() -> Vec<Vec<u64>> {
         square(Entry::PlaneCellByNormal),
         square(Entry::PlaneCellByDirection),
     ];
+    let strict = Case {
+        strict: 1,
+        ..touching(2.0)
+    };
     let others = [
         (stitch.clone(), point),
+        (stitch.clone(), PINCHED),
         (stitch, COMPARISONS[1]),
         (tolerance(Entry::ToleranceInSpace), value),
         (tolerance(Entry::ToleranceInPlane), value),
@@ -71,6 +102,7 @@ pub fn wrong() -> Vec<Vec<u64>> {
         .iter()
         .map(|thing| spoilt(&section, *thing))
         .collect();
+    all.extend(OF_THE_STRICT_WAY.map(|thing| spoilt(&strict, thing)));
     for thing in [point, DEFAULTED] {
         all.extend(lines.iter().map(|case| spoilt(case, thing)));
     }

@@ -1,6 +1,6 @@
 //! Writes what crates/replay reads: the rules' worked cases with the answers told there, what the Rust
-//! answers to some thousands of cases, refusals among them, the machine's square roots, and answers with one thing
-//! wrong. The format stands in compare/src/recorded.rs. Right answers are held against the linked entries first.
+//! answers to some thousands of cases, refusals among them, and in the strict way the Rust and another walk; the machine's
+//! square roots; and answers with one thing wrong. The format stands in compare/src/recorded.rs. Right answers are held against the linked entries first.
 
 use compare::answers::{answer, given, Answer};
 use compare::cuts::{any_case, refusals, sound, spoil};
@@ -9,6 +9,7 @@ use compare::numbers::alike;
 use compare::random::Random;
 use compare::recorded::{file, root_words, words, Group};
 use compare::roots::{sample, GROUPS};
+use compare::ways::{self, USUAL};
 use compare::worked::{roots, worked_in_all_buffers, Worked};
 use compare::worked::{BY_DEFAULT, COMPARISONS, NAMES, STRICT};
 use compare::wrong::wrong;
@@ -17,14 +18,20 @@ use std::process::ExitCode;
 
 /// Each entry with its name and how many random cases it has.
 const SHARES: [(Entry, &str, usize); 8] = [
-    (Entry::Plane, "plane cut", 2000),
+    (Entry::Plane, "plane cut", 1500),
     (Entry::Gather, "gathering", 430),
     (Entry::LineInSpace, "line cut in space", 900),
     (Entry::PlaneCellByNormal, "plane cell by normal", 600),
     (Entry::PlaneCellByDirection, "plane cell by direction", 600),
-    (Entry::Stitch, "stitching alone", 800),
+    (Entry::Stitch, "stitching alone", 600),
     (Entry::ToleranceInSpace, "tolerance in space", 100),
     (Entry::ToleranceInPlane, "tolerance in the plane", 100),
+];
+
+/// The same of those that have a strict way, in that.
+const STRICT_SHARES: [(Entry, &str, usize); 2] = [
+    (Entry::Plane, "plane cut", 800),
+    (Entry::Stitch, "stitching alone", 400),
 ];
 
 /// How many square roots each group of patterns has.
@@ -45,6 +52,7 @@ fn main() -> ExitCode {
     };
     let mut right = cases_worked();
     right.extend(SHARES.map(|(entry, name, share)| cases_of(entry, name, share)));
+    right.extend(STRICT_SHARES.map(|(entry, name, share)| strict_cases_of(entry, name, share)));
     let differing: usize = right.iter().map(|(_, cases)| differing(cases)).sum();
     let mut groups: Vec<Group> = right
         .iter()
@@ -95,14 +103,24 @@ fn cases_worked() -> Vec<(String, Vec<Right>)> {
     named
 }
 
-/// Random cases of an entry, and its refusals.
+/// Random cases of an entry in the usual way, and its refusals.
 fn cases_of(entry: Entry, name: &str, share: usize) -> (String, Vec<Right>) {
     let mut cases = Vec::new();
-    record(entry, share, &mut cases);
+    record(entry, share, USUAL, |_| true, &mut cases);
     record_refusals(entry, &mut cases);
     let refused = |(_, answer): &&Right| answer.told.refusal > 0;
     let refused = cases.iter().filter(refused).count();
     (format!("{name}, {refused} refusals"), cases)
+}
+
+/// Random cases of an entry in the strict way, a quarter of them with a pinched walk at least.
+fn strict_cases_of(entry: Entry, name: &str, share: usize) -> (String, Vec<Right>) {
+    let mut cases = Vec::new();
+    let pinched = |(_, answer): &Right| answer.told.pinched > 0;
+    record(entry, share - share / 4, ways::STRICT, |_| true, &mut cases);
+    record(entry, share / 4, ways::STRICT, pinched, &mut cases);
+    let pinched = cases.iter().filter(|right| pinched(right)).count();
+    (format!("{name}, strict, {pinched} pinched"), cases)
 }
 
 fn group(name: &str, cases: &[Right]) -> Group {
@@ -129,13 +147,24 @@ fn recorded(case: Case) -> Option<Right> {
     rust.is(&cosine, alike).then_some((case, rust))
 }
 
-/// Random cases that are not large.
-fn record(entry: Entry, share: usize, cases: &mut Vec<Right>) {
-    let mut random = Random::new(0x517c_c1b7_2722_0a95 + entry as u64);
+/// Random cases that are not large and that are wanted, with these values of `strict` in turn.
+fn record(
+    entry: Entry,
+    share: usize,
+    ways: &[u8],
+    wanted: fn(&Right) -> bool,
+    cases: &mut Vec<Right>,
+) {
+    let mut random = Random::new(0x517c_c1b7_2722_0a95 + entry as u64 + cases.len() as u64);
+    let mut strict = ways.iter().cycle();
     let mut found = 0;
     while found < share {
-        let case = any_case(&mut random, entry);
-        if let Some(right) = recorded(case).filter(|right| within(right, MOST_WORDS)) {
+        let case = Case {
+            strict: *strict.next().unwrap(),
+            ..any_case(&mut random, entry)
+        };
+        let right = recorded(case).filter(|right| within(right, MOST_WORDS));
+        if let Some(right) = right.filter(wanted) {
             cases.push(right);
             found += 1;
         }

@@ -16,7 +16,7 @@ fn main() -> ExitCode {
     println!("lists stitched, with the bits of the rules, NaN alike, and alike to the Rust's:");
     let usual = of_all_groups(cases, USUAL);
     println!(
-        "the same in the strict way, the Rust's loops being those in which no point stands twice:"
+        "the same in the strict way, with the loops by the rules in which no point stands twice, and those of another walk:"
     );
     let strict = of_all_groups(cases, STRICT);
     let differing = usual + strict;
@@ -50,10 +50,12 @@ fn of_all_groups(cases: u64, ways: &[u8]) -> u64 {
     );
     all.weldings.print();
     all.repeated.print();
-    println!(
-        "{:>10} lists on which the Rust, comparing arccosines, goes another way than with cosines",
-        all.arccosine
-    );
+    if all.arccosine > 0 {
+        println!(
+            "{:>10} lists on which the Rust, comparing arccosines, goes another way than with cosines",
+            all.arccosine
+        );
+    }
     if let Some(first) = all.first_arccosine {
         println!("           first: {first}");
     }
