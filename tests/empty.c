@@ -1,10 +1,11 @@
-/* Calls each function with empty lists whose pointers are NULL. Prints nothing; the status is 0 if each
- * answers as the header says. */
+/* Calls each function with empty lists whose pointers are NULL, those with a strict way in both ways. Prints
+ * nothing; the status is 0 if each answers as the header says. */
 #include "cicelybeam.h"
 
 static int is_empty(struct cicelybeam_section s, uint32_t refusal) {
   return s.refusal == refusal && s.points == 0 && s.nodes == 0 && s.loops == 0 && s.listed == 0 &&
-         s.in_loops == 0 && s.flat == 0 && s.open == 0 && s.defaulted == 0 && s.comparisons == 0;
+         s.in_loops == 0 && s.pinched == 0 && s.flat == 0 && s.open == 0 && s.defaulted == 0 &&
+         s.comparisons == 0;
 }
 
 static int is_none(struct cicelybeam_line l, uint32_t refusal) {
@@ -16,15 +17,15 @@ static int is_tolerance(struct cicelybeam_tolerance t) {
 }
 
 /* A polyhedron without a face and a polygon without a corner are cells, so a length is refused. */
-static int cuts(void) {
+static int cuts(uint8_t strict) {
   const double *none = NULL;
   double *numbers = NULL;
   uint32_t *places = NULL;
-  return is_empty(cicelybeam_plane(CICELYBEAM_HEX8, NULL, 0, none, 0, none, 0, none, 0, 0, numbers, 0,
-                                   places, 0, places, 0),
+  return is_empty(cicelybeam_plane(CICELYBEAM_HEX8, NULL, 0, none, 0, none, 0, none, 0, strict, 0, numbers,
+                                   0, places, 0, places, 0),
                   CICELYBEAM_WRONG_NODE_COUNT) &&
-         is_empty(cicelybeam_plane(CICELYBEAM_PHED, NULL, 0, none, 0, none, 0, none, 0, 0, numbers, 0,
-                                   places, 0, places, 0),
+         is_empty(cicelybeam_plane(CICELYBEAM_PHED, NULL, 0, none, 0, none, 0, none, 0, strict, 0, numbers,
+                                   0, places, 0, places, 0),
                   CICELYBEAM_WRONG_LENGTH) &&
          is_none(cicelybeam_gather(CICELYBEAM_HEX8, NULL, 0, none, 0, none, 0, none, 0, 0, numbers, 0),
                  CICELYBEAM_WRONG_NODE_COUNT) &&
@@ -42,12 +43,13 @@ static int cuts(void) {
 }
 
 /* With a cut placed, cells without a corner have an empty section, in buffers of no length. */
-static int sections(void) {
+static int sections(uint8_t strict) {
   static const double up[] = {0, 0, 1};
   static const double across[] = {0, 1};
-  return is_empty(cicelybeam_plane(CICELYBEAM_PHED, NULL, 0, NULL, 0, up, 3, up, 3, 0, NULL, 0, NULL, 0,
-                                   NULL, 0),
+  return is_empty(cicelybeam_plane(CICELYBEAM_PHED, NULL, 0, NULL, 0, up, 3, up, 3, strict, 0, NULL, 0,
+                                   NULL, 0, NULL, 0),
                   CICELYBEAM_ANSWERED) &&
+         is_empty(cicelybeam_stitch(NULL, 0, strict, 0, NULL, 0, NULL, 0, NULL, 0), CICELYBEAM_ANSWERED) &&
          is_none(cicelybeam_gather(CICELYBEAM_PHED, NULL, 0, NULL, 0, up, 3, up, 3, 0, NULL, 0),
                  CICELYBEAM_ANSWERED) &&
          is_none(cicelybeam_plane_cell_by_normal(CICELYBEAM_PGON, NULL, 0, NULL, 0, across, 2, across, 2,
@@ -56,8 +58,7 @@ static int sections(void) {
 }
 
 int main(void) {
-  int right = cuts() && sections() &&
-              is_empty(cicelybeam_stitch(NULL, 0, 0, NULL, 0, NULL, 0, NULL, 0), CICELYBEAM_ANSWERED) &&
+  int right = cuts(0) && cuts(1) && cuts(255) && sections(0) && sections(1) && sections(255) &&
               is_tolerance(cicelybeam_tolerance_in_space(NULL, 0)) &&
               is_tolerance(cicelybeam_tolerance_in_plane(NULL, 0)) && cicelybeam_sqrt(4) == 2;
   return right ? 0 : 1;

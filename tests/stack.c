@@ -14,7 +14,7 @@
 #define ENTRIES CICELYBEAM_MOST_ENTRIES
 #define SEGMENTS CICELYBEAM_MOST_SEGMENTS
 
-/* ---- Inputs */
+/* ---- Inputs; functions with a strict way are called in both */
 
 static const double up[] = {0, 0, 1};
 static const double oblique[] = {0.3, 0.2, 1};
@@ -26,6 +26,7 @@ static size_t conn_len;
 static double coords[3 * ENTRIES];
 static size_t coords_len;
 static const double *vector;
+static uint8_t strict;
 static double segments[4 * SEGMENTS];
 
 static double numbers[CICELYBEAM_LINE_NUMBERS(ENTRIES)];
@@ -62,8 +63,8 @@ static void run_nothing(void) {}
 static void run_sqrt(void) { cicelybeam_sqrt(2); }
 
 static void run_plane(void) {
-  refusals |= cicelybeam_plane(type, conn, conn_len, coords, coords_len, origin, 3, vector, 3, 1e-12, numbers,
-                               sizeof numbers / sizeof *numbers, nodes, sizeof nodes / sizeof *nodes, ends,
+  refusals |= cicelybeam_plane(type, conn, conn_len, coords, coords_len, origin, 3, vector, 3, strict, 1e-12,
+                               numbers, sizeof numbers / sizeof *numbers, nodes, sizeof nodes / sizeof *nodes, ends,
                                sizeof ends / sizeof *ends).refusal;
 }
 
@@ -88,8 +89,8 @@ static void run_by_direction(void) {
 }
 
 static void run_stitch(void) {
-  refusals |= cicelybeam_stitch(segments, 4 * SEGMENTS, 1e-12, numbers, sizeof numbers / sizeof *numbers, nodes,
-                                sizeof nodes / sizeof *nodes, ends, sizeof ends / sizeof *ends).refusal;
+  refusals |= cicelybeam_stitch(segments, 4 * SEGMENTS, strict, 1e-12, numbers, sizeof numbers / sizeof *numbers,
+                                nodes, sizeof nodes / sizeof *nodes, ends, sizeof ends / sizeof *ends).refusal;
 }
 
 static void run_tolerances(void) {
@@ -184,11 +185,16 @@ int main(void) {
   nothing = depth(run_nothing);
   printf("bytes of stack at most\n");
   print_in_space("cicelybeam_plane", run_plane);
+  strict = 1;
+  print_in_space("cicelybeam_plane, strict", run_plane);
+  strict = 0;
   print_in_space("cicelybeam_gather", run_gather);
   print_in_space("cicelybeam_line_in_space", run_line);
   print("cicelybeam_plane_cell_by_normal", depth_in_plane(run_by_normal));
   print("cicelybeam_plane_cell_by_direction", depth_in_plane(run_by_direction));
   print("cicelybeam_stitch", depth_of_stitching());
+  strict = 1;
+  print("cicelybeam_stitch, strict", depth_of_stitching());
   fill_coords(3);
   print("cicelybeam_tolerance_in_*", depth(run_tolerances));
   print("cicelybeam_sqrt", depth(run_sqrt));
