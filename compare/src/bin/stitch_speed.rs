@@ -13,6 +13,7 @@ fn main() {
     compared("ring of 96", 40_000, &ring(96));
     compared("ring of 384", 4_000, &ring(384));
     compared("ring of 384, shuffled", 4_000, &shuffled(384));
+    compared("128 triangles", 4_000, &triangles(128));
 }
 
 /// The segments of the unit cube cut at half its height.
@@ -37,6 +38,16 @@ fn shuffled(n: usize) -> List {
     let mut list = ring(n);
     Random::new(1).shuffle(&mut list.segments);
     list
+}
+
+/// So many triangles apart, each a walk of its own.
+fn triangles(n: u32) -> List {
+    let sides = (0..n).flat_map(|k| {
+        let x = 2.0 * f64::from(k);
+        let [a, b, c] = [[x, 0.0], [x + 1.0, 0.0], [x, 1.0]];
+        [[a, b], [b, c], [c, a]]
+    });
+    List::new(sides.collect(), 1e-12)
 }
 
 fn compared(name: &str, rounds: u32, list: &List) {
