@@ -430,95 +430,106 @@ fn tube(number: usize, n: u32) -> Worked {
 
 /// The walks are those of the usual way. Of a pinched one the edges are counted, and its points stay.
 fn of_the_strict_way() -> Vec<Worked> {
-    let number = |k: usize| NAMES.len() + BY_DEFAULT.len() + COMPARISONS.len() + k;
-    // the ends of two triangles that share their second point: each is new, or the point that its number tells
-    let sum_of_two = || sum(&[0, 1, 2, 2, 3, 3, 4, 2, 2, 4, 5, 1]);
-    let [first, middle, second, third, _, last, _] = bow_tie();
-    let tie = [first, middle, second, third, last];
-    let flat = comparing(sum_of_two(), section(&tie, &[], [6, 0, 6, 0]));
-    let pinched = || comparing(sum_of_two(), pinching(6, section(&tie, &[], [6, 0, 0, 0])));
-    let mut all = vec![is(number(1), stitch(&bow_tie(), 0.0), flat)];
+    let first = NAMES.len() + BY_DEFAULT.len() + COMPARISONS.len();
+    let mut all = bow_ties(first + 1);
+    all.extend(larger_on_the_left(first + 2));
+    all.extend(on_a_line(first + 3));
+    all.extend(an_open_walk(first + 4));
+    all.extend(nothing_pinched(first + 5));
+    all.extend(touching_itself(first + 6, 2.0));
+    all.extend(touching_itself(first + 7, 1.0));
+    all.extend(all_apart(first + 8));
     for strict in [1, 2, 255] {
-        let case = in_way(strict, stitch(&bow_tie(), 0.0));
-        all.push(is(number(1), case, pinched()));
-    }
-
-    // the walk 0 1 3 2 1 4 has the area -6 as its left part is the larger one, and 5 6 7 has 0.5
-    let [left, right] = [[-4.0, 2.0], [-4.0, -2.0]];
-    let apart = [[9.0, 0.0], [10.0, 0.0], [9.0, 1.0]];
-    let [a, b, c] = apart;
-    let mut list = pairs(&[left, middle, second, third, middle, right, left]);
-    list.extend(pairs(&[a, b, c, a]));
-    let points = [left, middle, second, third, right, a, b, c];
-    let comparisons = sum_of_two() + sum(&[5, 6, 7, 7, 8, 6]);
-    let usual = section(&points, &[&[4, 1, 2, 3, 1, 0], &[5, 6, 7]], [9, 9, 0, 0]);
-    let strict = pinching(6, section(&points, &[&[5, 6, 7]], [9, 3, 0, 0]));
-    all.extend(both_ways(
-        number(2),
-        stitch_list(&list, 0.0),
-        [usual, strict].map(|answer| comparing(comparisons, answer)),
-    ));
-
-    // the walk 0 1 2 3 4 2 goes straight on at (0, 0); all areas are 0
-    let on_x = [1.0, 3.0, 0.0, -1.0, -3.0, 0.0, 1.0].map(|x| [x, 0.0]);
-    let comparisons = sum(&[0, 1, 2, 2, 3, 3, 4, 4, 5, 3, 3, 1]);
-    let usual = section(&on_x[..5], &[], [6, 0, 6, 0]);
-    let strict = pinching(6, section(&on_x[..5], &[], [6, 0, 0, 0]));
-    all.extend(both_ways(
-        number(3),
-        stitch(&on_x, 0.0),
-        [usual, strict].map(|answer| comparing(comparisons, answer)),
-    ));
-
-    // the walk 0 1 2 3 1 4, which ends at another point than it started
-    let [o, a, b, c, d] = [[0.0, 0.0], [1.0, 0.0], [2.0, 0.0], [1.0, 1.0], [1.0, -1.0]];
-    let comparisons = sum(&[0, 1, 2, 2, 3, 3, 4, 2, 2, 4]);
-    let open = || comparing(comparisons, section(&[o, a, b, c, d], &[], [5, 0, 0, 5]));
-    all.extend(both_ways(
-        number(4),
-        stitch(&[o, a, b, c, a, d], 0.0),
-        [open(), open()],
-    ));
-
-    let alike = [5, 6, 7, 9, 2, 4];
-    let others = [cut(), stitched()].concat();
-    let others = others.into_iter().filter(|one| alike.contains(&one.number));
-    for one in others.filter(|one| one.case.entry != Entry::Gather) {
-        all.push(is(number(5), in_way(1, one.case), one.answer));
-    }
-
-    // of the walk 0 1 4 2 1 3 the part to the right has the area 1, the other one -4 or -1
-    let usual = |x| {
-        [section(
-            &touching_points(x),
-            &[&[3, 1, 2, 4, 1, 0]],
-            [6, 6, 0, 0],
-        )]
-    };
-    let flat = |x| [section(&touching_points(x), &[], [6, 0, 6, 0])];
-    let strict = |x| pinching(6, section(&touching_points(x), &[], [6, 0, 0, 0]));
-    let comparisons = sum(&[0, 1, 2, 2, 2, 3, 4, 2, 4, 1, 3, 5]);
-    for (k, x, [usual]) in [(6, 2.0, usual(2.0)), (7, 1.0, flat(1.0))] {
-        let answers = [usual, strict(x)].map(|answer| comparing(comparisons, answer));
-        all.extend(both_ways(number(k), touching(x), answers));
-    }
-
-    // every end is a point of its own
-    let ends: Vec<_> = pairs(&bow_tie()).concat();
-    let comparisons = (0..12).sum();
-    let apart = || comparing(comparisons, section(&ends, &[], [6, 0, 0, 6]));
-    all.extend(both_ways(
-        number(8),
-        stitch(&bow_tie(), f64::NAN),
-        [apart(), apart()],
-    ));
-
-    for strict in [1, 2, 255] {
-        let all_refused = refused_cases()
-            .map(|(case, refusal)| is(number(9), in_way(strict, case), refused(refusal)));
-        all.extend(all_refused);
+        let strictly = |(case, refusal)| is(first + 9, in_way(strict, case), refused(refusal));
+        all.extend(refused_cases().map(strictly));
     }
     all
+}
+
+/// Of two triangles that share the second point of the first segment: each end is new, or found again.
+const TWO_TRIANGLES: [u32; 12] = [0, 1, 2, 2, 3, 3, 4, 2, 2, 4, 5, 1];
+
+/// The walk 0 1 3 2 1 4 has the area 0.
+fn bow_ties(number: usize) -> Vec<Worked> {
+    let [a, middle, b, c, _, d, _] = bow_tie();
+    let points = [a, middle, b, c, d];
+    let answer = |pinched, flat| {
+        let answer = pinching(pinched, section(&points, &[], [6, 0, flat, 0]));
+        comparing(sum(&TWO_TRIANGLES), answer)
+    };
+    let mut all = vec![is(number, stitch(&bow_tie(), 0.0), answer(0, 6))];
+    for strict in [1, 2, 255] {
+        let case = in_way(strict, stitch(&bow_tie(), 0.0));
+        all.push(is(number, case, answer(6, 0)));
+    }
+    all
+}
+
+/// The walk 0 1 3 2 1 4 has the area -6, its left part being the larger one, and 5 6 7 has 0.5.
+fn larger_on_the_left(number: usize) -> [Worked; 2] {
+    let [_, middle, b, c, ..] = bow_tie();
+    let [a, d] = [[-4.0, 2.0], [-4.0, -2.0]];
+    let [e, f, g] = [[9.0, 0.0], [10.0, 0.0], [9.0, 1.0]];
+    let list = [
+        pairs(&[a, middle, b, c, middle, d, a]),
+        pairs(&[e, f, g, e]),
+    ];
+    let points = [a, middle, b, c, d, e, f, g];
+    let usual = section(&points, &[&[4, 1, 2, 3, 1, 0], &[5, 6, 7]], [9, 9, 0, 0]);
+    let strict = pinching(6, section(&points, &[&[5, 6, 7]], [9, 3, 0, 0]));
+    let comparisons = sum(&TWO_TRIANGLES) + sum(&[5, 6, 7, 7, 8, 6]);
+    let answers = [usual, strict].map(|answer| comparing(comparisons, answer));
+    both_ways(number, stitch_list(&list.concat(), 0.0), answers)
+}
+
+/// The walk 0 1 2 3 4 2 goes straight on at (0, 0), and all areas are 0.
+fn on_a_line(number: usize) -> [Worked; 2] {
+    let chain = [1.0, 3.0, 0.0, -1.0, -3.0, 0.0, 1.0].map(|x| [x, 0.0]);
+    let usual = section(&chain[..5], &[], [6, 0, 6, 0]);
+    let strict = pinching(6, section(&chain[..5], &[], [6, 0, 0, 0]));
+    let comparisons = sum(&[0, 1, 2, 2, 3, 3, 4, 4, 5, 3, 3, 1]);
+    let answers = [usual, strict].map(|answer| comparing(comparisons, answer));
+    both_ways(number, stitch(&chain, 0.0), answers)
+}
+
+/// The walk 0 1 2 3 1 4, which ends at another point than it started.
+fn an_open_walk(number: usize) -> [Worked; 2] {
+    let [o, a, b] = [[0.0, 0.0], [1.0, 0.0], [2.0, 0.0]];
+    let [c, d] = [[1.0, 1.0], [1.0, -1.0]];
+    let open = section(&[o, a, b, c, d], &[], [5, 0, 0, 5]);
+    let open = comparing(sum(&[0, 1, 2, 2, 3, 3, 4, 2, 2, 4]), open);
+    let case = stitch(&[o, a, b, c, a, d], 0.0);
+    both_ways(number, case, [open.clone(), open])
+}
+
+/// Sections of the cases above, and stitchings, that are the same in the strict way.
+fn nothing_pinched(number: usize) -> Vec<Worked> {
+    let alike = |one: &Worked| [2, 4, 5, 6, 7, 9].contains(&one.number);
+    let others = [cut(), stitched()].concat().into_iter().filter(alike);
+    let strictly = |one: Worked| is(number, in_way(1, one.case), one.answer);
+    others.map(strictly).collect()
+}
+
+/// Of the walk 0 1 4 2 1 3 the part to the right has the area 1, the other one -x * x.
+fn touching_itself(number: usize, x: f64) -> [Worked; 2] {
+    let points = touching_points(x);
+    let usual = match x {
+        1.0 => section(&points, &[], [6, 0, 6, 0]),
+        _ => section(&points, &[&[3, 1, 2, 4, 1, 0]], [6, 6, 0, 0]),
+    };
+    let strict = pinching(6, section(&points, &[], [6, 0, 0, 0]));
+    let comparisons = sum(&[0, 1, 2, 2, 2, 3, 4, 2, 4, 1, 3, 5]);
+    let answers = [usual, strict].map(|answer| comparing(comparisons, answer));
+    both_ways(number, touching(x), answers)
+}
+
+/// With the tolerance NaN every end is a point of its own.
+fn all_apart(number: usize) -> [Worked; 2] {
+    let points = pairs(&bow_tie()).concat();
+    let apart = section(&points, &[], [6, 0, 0, 6]);
+    let apart = comparing((0..12).sum(), apart);
+    let case = stitch(&bow_tie(), f64::NAN);
+    both_ways(number, case, [apart.clone(), apart])
 }
 
 /// The same case in the usual way and in the strict one.
