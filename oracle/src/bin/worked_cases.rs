@@ -1,6 +1,8 @@
-//! What the Rust gives for the seventeen cases that docs/RULES.md works by hand.
+//! What the Rust gives for the eighteen cases that docs/RULES.md works by hand, and another walk in the strict way, which the
+//! Rust has not.
 
 use oracle::counts::{counts, listed};
+use oracle::walks::Walked;
 use oracle::*;
 
 /// HEX8 on the unit cube.
@@ -18,6 +20,10 @@ fn main() {
     println!("The Rust's answer does not tell flat edges from open ones: listed less in loops");
     println!("is both together. Stitched answers are the same in all four builds, unless said;");
     println!("three of them count the comparisons of points while welding, and count alike.");
+    println!(
+        "The Rust has one way, the usual one. What is told of the strict way is that of another"
+    );
+    println!("walk, written here from the rules, which gives the Rust's loops in the usual way.");
     faces_of_phed();
     brick();
     tetrahedron();
@@ -29,6 +35,7 @@ fn main() {
     gathered();
     crossings_by_default();
     comparisons_of_points();
+    touching_triangles();
 }
 
 fn faces_of_phed() {
@@ -95,7 +102,7 @@ fn stitching() {
 }
 
 fn bow_tie() {
-    heading("10. * Bow-tie (-2,1)-(0,0)-(2,1)-(2,-1)-(0,0)-(-2,-1)-(-2,1): one walk 0 1 3 2 1 4, area 0, counts 6 0 6 0.");
+    heading("10. * Bow-tie (-2,1)-(0,0)-(2,1)-(2,-1)-(0,0)-(-2,-1)-(-2,1): one walk 0 1 3 2 1 4, area 0, counts 6 0 6 0. In the strict way 6 0 6 0 0, and the same points.");
     let tie = chain(&[[-2, 1], [0, 0], [2, 1], [2, -1], [0, 0], [-2, -1], [-2, 1]]);
     let ten = stitched(&tie, 0.0);
     // A flat walk is not returned; the junction and the area can still be asked for.
@@ -112,7 +119,10 @@ fn bow_tie() {
     );
     let flat = area(&[0, 1, 3, 2, 1, 4], &points);
     println!("   area of the walk 0 1 3 2 1 4: {flat:?}");
-    verdict(ten.0.loops.is_empty() && ten.1 == [6, 0] && edges[taken] == [1, 3] && flat == 0.0);
+    let usual = ten.0.loops.is_empty() && ten.1 == [6, 0];
+    let [usually, strictly] = [false, true].map(|way| counted(&tie, way, 0.0));
+    let both = usually == [6, 0, 0, 6, 0] && strictly == [6, 0, 6, 0, 0];
+    verdict(usual && both && edges[taken] == [1, 3] && flat == 0.0);
 }
 
 fn leaves() {
@@ -275,7 +285,39 @@ fn stitched(segments: &[Segment<2>], tol: f64) -> (Section, [usize; 2]) {
         "   listed {}, in loops {}, flat or open {rest}; comparisons of points {compared}",
         told.listed, told.in_loops
     );
+    in_the_strict_way(segments, tol, &found);
     (found, [told.listed, told.in_loops])
+}
+
+/// Prints the loops and counts of the other walk in the strict way; in the usual way its loops are those found.
+fn in_the_strict_way(segments: &[Segment<2>], tol: f64, found: &Section) {
+    let walked = Walked::new(segments, tol);
+    assert_eq!(walked.section(false), *found);
+    let strict = walked.section(true).loops;
+    let told = if strict.is_empty() {
+        "no loops".into()
+    } else if strict == found.loops {
+        "the same loops".into()
+    } else {
+        let loops: Vec<String> = strict.iter().map(|nodes| words(nodes)).collect();
+        format!("loop {}", loops.join(", loop "))
+    };
+    let [listed, in_loops, pinched, flat, open] = counted(segments, true, tol);
+    println!(
+        "   the strict way: {told}; listed {listed}, in loops {in_loops}, pinched {pinched}, flat {flat}, open {open}"
+    );
+}
+
+/// The counts of the other walk: listed, in loops, pinched, flat, open.
+fn counted(segments: &[Segment<2>], strict: bool, tol: f64) -> [usize; 5] {
+    let edges = Walked::new(segments, tol).edges(strict);
+    [
+        edges.listed,
+        edges.in_loops,
+        edges.pinched,
+        edges.flat,
+        edges.open,
+    ]
 }
 
 /// The segments from each corner to the next.
@@ -345,6 +387,21 @@ fn comparisons_of_points() {
     let (_, found) = comparisons(cut);
     println!("   case 2: {found}");
     verdict(agrees && found == 16);
+}
+
+fn touching_triangles() {
+    heading("18. Two triangles that share a corner, and one apart: (-4,2)-(0,0)-(2,1)-(2,-1)-(0,0)-(-4,-2)-(-4,2) and (9,0)-(10,0)-(9,1)-(9,0): walks 0 1 3 2 1 4, of area -6, and 5 6 7, loops 4 1 2 3 1 0 and 5 6 7, counts 9 9 0 0. In the strict way loop 5 6 7, counts 9 3 6 0 0, and the same points.");
+    let sharing = chain(&[[-4, 2], [0, 0], [2, 1], [2, -1], [0, 0], [-4, -2], [-4, 2]]);
+    let apart = chain(&[[9, 0], [10, 0], [9, 1], [9, 0]]);
+    let segments = [sharing, apart].concat();
+    let (usual, edges) = stitched(&segments, 0.0);
+    let strict = Walked::new(&segments, 0.0).section(true);
+    let walk = area(&[0, 1, 3, 2, 1, 4], &usual.points);
+    println!("   area of the walk 0 1 3 2 1 4: {walk:?}");
+    let apart = vec![5, 6, 7];
+    let loops = usual.loops == [vec![4, 1, 2, 3, 1, 0], apart.clone()] && strict.loops == [apart];
+    let counts = edges == [9, 9] && counted(&segments, true, 0.0) == [9, 3, 6, 0, 0];
+    verdict(loops && counts && walk == -6.0 && strict.points == usual.points);
 }
 
 fn heading(text: &str) {
