@@ -29,16 +29,19 @@ pub struct Gathered {
     pub defaulted: u64,
     /// The comparisons of points that stitching and the plane cut tell.
     pub weldings: Weldings,
+    /// The pinched edges that stitching and the plane cut tell.
+    pub pinched: u64,
 }
 
-/// What one cell showed: the refusal of its plane cut, its segments, its faces, its crossings in the middle by default and
-/// its comparisons of points.
+/// What one cell showed: the refusal of its plane cut, its segments, its faces, its crossings in the middle by default, its
+/// comparisons of points and its pinched edges.
 pub struct Right {
     pub refusal: u32,
     pub segments: usize,
     pub faces: usize,
     pub defaulted: u32,
     pub welding: Welding,
+    pub pinched: u32,
 }
 
 /// Holds gathering, then stitching, against the plane cut of this case.
@@ -89,6 +92,7 @@ pub fn judge(case: &Case, cut: Cut) -> Result<Right, String> {
         faces: alone.len(),
         defaulted,
         welding,
+        pinched: section.told.pinched,
     })
 }
 
@@ -165,6 +169,7 @@ pub fn compare(cases: u64, cut: Cut) -> Gathered {
             all.faces += right.faces as u64;
             all.defaulted += u64::from(right.defaulted);
             all.weldings.count(&right.welding);
+            all.pinched += u64::from(right.pinched);
             if right.refusal == 0 {
                 all.answered.count(case.number);
             }
@@ -233,6 +238,7 @@ mod tests {
         assert!(all.segments > all.found.cases && all.faces > all.found.cases);
         assert!(all.defaulted > all.found.cases / 10);
         assert!(all.weldings.comparisons > all.segments && all.weldings.most > 0);
+        assert!(all.pinched > 100, "{}", all.pinched);
     }
 
     /// The builds differ in stitching and in the sign of zeros only, and the Rust as it stands counts no crossings.
@@ -289,6 +295,22 @@ mod tests {
     fn a_wrong_stitching_or_plane_cut_is_seen() {
         seen(&[
             |case, lent| changed(case, lent, Entry::Stitch, |told, _| told.flat += 1),
+            |case, lent| changed(case, lent, Entry::Stitch, |told, _| told.pinched += 1),
+            |case, lent| changed(case, lent, Entry::Plane, |told, _| told.pinched += 1),
+            // the one in the usual way alone
+            |case, lent| match case.entry {
+                Entry::Stitch => {
+                    let strict = 0;
+                    ours(
+                        &Case {
+                            strict,
+                            ..case.clone()
+                        },
+                        lent,
+                    )
+                }
+                _ => ours(case, lent),
+            },
             |case, lent| changed(case, lent, Entry::Stitch, |told, _| told.defaulted += 1),
             |case, lent| changed(case, lent, Entry::Plane, |told, _| told.defaulted += 1),
             |case, lent| changed(case, lent, Entry::Gather, |told, _| told.defaulted += 1),

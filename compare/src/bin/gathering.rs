@@ -35,8 +35,8 @@ fn main() -> ExitCode {
     line(format!("answered, by type: {}", gathered.answered.told()));
     line(refused_by(&gathered.refused));
     line(format!(
-        "{} segments, {} faces handed over alone, and {} crossings in the middle by default",
-        gathered.segments, gathered.faces, gathered.defaulted
+        "{} segments, {} faces handed over alone, {} crossings in the middle by default, and {} pinched edges",
+        gathered.segments, gathered.faces, gathered.defaulted, gathered.pinched
     ));
     gathered.weldings.print();
     let differing = reached.found.differing + refusals.differing + gathered.found.differing;

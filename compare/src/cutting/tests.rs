@@ -3,7 +3,7 @@ use crate::answers::{given, room};
 use crate::comparisons::wrong::{counted, right, End, COUNTS};
 use crate::entries::{by_c, ours};
 use crate::ways::{ways, wrong::KINDS, STRICT, USUAL};
-use crate::worked::{worked_in_all_buffers, Worked};
+use crate::worked::{worked_in_all_buffers, Worked, BY_DEFAULT, COMPARISONS, NAMES};
 use oracle::walks::{Kind, Walk};
 use oracle::BUILDS;
 
@@ -119,6 +119,28 @@ fn the_worked_cases_are_the_rusts() {
             panic!("case {number}: {why}");
         }
     }
+}
+
+/// The answers by hand in the usual way, but for the bow-tie and the cases of the strict way, which are pinched.
+#[test]
+fn no_other_worked_case_changes() {
+    let first_strict = NAMES.len() + BY_DEFAULT.len() + COMPARISONS.len() + 1;
+    let usual = |one: &Worked| one.number != 10 && one.number < first_strict;
+    let all = worked_in_all_buffers().into_iter().filter(usual);
+    let mut sections = 0;
+    for one in all.filter(|one| SECTIONS.contains(&one.case.entry)) {
+        let case = Case {
+            strict: 1,
+            ..one.case
+        };
+        assert!(
+            given(&case, ours).is(&one.answer, alike),
+            "case {}",
+            one.number
+        );
+        sections += 1;
+    }
+    assert!(sections > 100, "{sections}");
 }
 
 /// Random cases have each refusal of their entry, each type, flat and open walks, and walks that pass a point twice.
