@@ -110,6 +110,30 @@ fn cases_5_to_10_stitching() {
         [-2., 1.],
     ]);
     assert_eq!(counts(&stitch(&tie, false, 0.).unwrap()), [6, 0, 6, 0]);
+    let strict = stitch(&tie, true, 0.).unwrap();
+    assert_eq!((counts(&strict), strict.edges.pinched), ([6, 0, 0, 0], 6));
+}
+
+#[test]
+fn case_18_triangles_that_share_a_corner() {
+    let sharing = chain(&[
+        [-4., 2.],
+        [0., 0.],
+        [2., 1.],
+        [2., -1.],
+        [0., 0.],
+        [-4., -2.],
+        [-4., 2.],
+    ]);
+    let apart = chain(&[[9., 0.], [10., 0.], [9., 1.], [9., 0.]]);
+    let segments = [sharing, apart].concat();
+    let usual = stitch(&segments, false, 0.).unwrap();
+    assert_eq!(loops(&usual), [&[4, 1, 2, 3, 1, 0][..], &[5, 6, 7]]);
+    assert_eq!((counts(&usual), usual.edges.pinched), ([9, 9, 0, 0], 0));
+    let strict = stitch(&segments, true, 0.).unwrap();
+    assert_eq!(loops(&strict), [[5, 6, 7]]);
+    assert_eq!((counts(&strict), strict.edges.pinched), ([9, 3, 0, 0], 6));
+    assert_eq!(strict.points, usual.points);
 }
 
 #[test]
