@@ -390,7 +390,7 @@ fn comparisons_of_points() {
 }
 
 fn touching_triangles() {
-    heading("18. Two triangles that share a corner, and one apart: (-4,2)-(0,0)-(2,1)-(2,-1)-(0,0)-(-4,-2)-(-4,2) and (9,0)-(10,0)-(9,1)-(9,0): walks 0 1 3 2 1 4, of area -6, and 5 6 7, loops 4 1 2 3 1 0 and 5 6 7, counts 9 9 0 0. In the strict way loop 5 6 7, counts 9 3 6 0 0, and the same points.");
+    heading("18. * Two triangles that share a corner, and one apart: (-4,2)-(0,0)-(2,1)-(2,-1)-(0,0)-(-4,-2)-(-4,2) and (9,0)-(10,0)-(9,1)-(9,0): walks 0 1 3 2 1 4, of area -6, and 5 6 7, loops 4 1 2 3 1 0 and 5 6 7, counts 9 9 0 0. In the strict way loop 5 6 7, counts 9 3 6 0 0, and the same points.");
     let sharing = chain(&[[-4, 2], [0, 0], [2, 1], [2, -1], [0, 0], [-4, -2], [-4, 2]]);
     let apart = chain(&[[9, 0], [10, 0], [9, 1], [9, 0]]);
     let segments = [sharing, apart].concat();
