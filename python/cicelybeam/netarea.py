@@ -32,7 +32,7 @@ class NetArea:
 
 
 def net_area(rings: Rings, side: np.ndarray, tol: float) -> NetArea:
-    first = coinciding(rings.points, rings.nodes, rings.ends, tol)
+    first = coinciding(rings.points, rings.nodes, rings.ends, rings.hole, tol)
     again = first != np.arange(len(first))
     alone = ~again
     alone[first[again]] = False

@@ -83,9 +83,9 @@ def test_narrow_neighbours_do_not_coincide():
     from cicelybeam.coincident import coinciding
 
     strips = [[(0, y), (1, y), (1, y + 1e-12), (0, y + 1e-12)] for y in np.arange(4) * 1e-12]
-    assert coinciding(np.concatenate(strips), np.arange(16), np.arange(1, 5) * 4, 1e-12).tolist() == [0, 1, 2, 3]
+    assert coinciding(np.concatenate(strips), np.arange(16), np.arange(1, 5) * 4, np.zeros(4, bool), 1e-12).tolist() == [0, 1, 2, 3]
     wide = [[(0, 0), (1, 0), (1, 1), (0, 1)]] * 2
-    assert coinciding(np.concatenate(wide).astype(float), np.arange(8), np.array([4, 8]), 1e-12).tolist() == [0, 0]
+    assert coinciding(np.concatenate(wide).astype(float), np.arange(8), np.array([4, 8]), np.zeros(2, bool), 1e-12).tolist() == [0, 0]
 
 
 @given(st.lists(st.integers(0, 6), min_size=3, max_size=12))
@@ -114,6 +114,16 @@ def test_polyhedron_with_a_hole_through_it():
     (cell, outside, holes), = cut.shapes()
     assert cell == 0 and ring_area(outside) == pytest.approx(16) and ring_area(holes[0]) == pytest.approx(-4)
     assert cut.cell_area() == pytest.approx([12]) and "with 1 hole" in str(cut)
+
+
+def test_cell_that_fills_a_hole_of_another():
+    """It has the ring that bounds the hole, and is no second cell in the same place; a second such cell is."""
+    around = tube()
+    brick = [4, 5, 6, 7, 12, 13, 14, 15]
+    for bricks, coincident in (1, 0), (2, 2):
+        cut = cicelybeam.cut_plane(meshio.Mesh(around.points, [*around.cells, ("hexahedron", bricks * [brick])]), (0, 0, 0.5), (0, 0, 1))
+        assert cut.record.area == pytest.approx(16) and cut.record.coincident_polygons == coincident
+        assert cut.record.repeated_area == pytest.approx(4 * (bricks - 1))
 
 
 @settings(max_examples=60)
