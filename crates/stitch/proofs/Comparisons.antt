@@ -1,22 +1,24 @@
 -- How many comparisons of points stitching makes: those of welding, few, and as many as there can be by a tolerance that is NaN.
 -- Assumes nothing.
-use mathlib.Core.Path.{◌≡◌, refl}
-use Prim.Native.Nat.{ℕ, ◌/◌, ◌≤◌}
+use mathlib.Core.Path.{◌≡◌, refl, sym}
+use mathlib.Core.Bool.{Bool, true, false, ◌&&◌}
+use Prim.Native.Nat.{ℕ, ◌*◌, ◌/◌, ◌%◌, ◌≤◌}
 use mathlib.Core.List.{List}
 use native.Mathlib.Omega.{arith}
 use lib.Ieee.{Float, mul, nan}
+use lib.Dec.{eqb, leb}
 use lib.ListN.{length}
-use Rattle.rows.specs.Outcome.{found, refused, told_count}
-use Rattle.rows.proofs.Outcomes.{sound_then, told_then}
+use Rattle.rows.specs.Outcome.{Outcome, found, refused, and_then, unless}
+use Rattle.rows.proofs.Outcomes.{never_both, sound_then, told_then}
 use Rattle.vector.specs.Rows.{Seg, segs}
 use Rattle.vector.proofs.Rows.{segs_length}
 use Rattle.weld.specs.Weld.{comparisons}
 use Rattle.weld.proofs.Comparisons.{comparisons_few, comparisons_some, most_compared, most_of_384, none_near_nan}
 use Rattle.stitch.specs.Stitch.{rule_of}
 use Rattle.stitch.specs.Claim.{ComparisonsOf}
-use Rattle.stitch.specs.Comparisons.{FewCompared, NanCompared, StitchCompared, stitch_comparisons}
+use Rattle.stitch.specs.Comparisons.{FewCompared, NanCompared, RefusedAlike, StitchCompared, stitch_comparisons}
 use Rattle.stitch.specs.declared.Strictness.TheVariants.{Usual}
-use Rattle.stitch.specs.Entry.{Lengths, StitchSection, stitch_alone}
+use Rattle.stitch.specs.Entry.{StitchSection, room, stitch_alone}
 use Rattle.stitch.proofs.Entries.{stitch_sound}
 
 pub comparisons_of : (tol2 : Float) (ss : List Seg) {n : ℕ} → n ≡ comparisons tol2 ss → ComparisonsOf tol2 ss n
@@ -27,9 +29,17 @@ few_compared {ss = ss} c h = most_of_384 _ (length ss) c.few h
 
 -- ---- stitching alone
 
-pub refused_compared : (xs : List Float) (tol : Float) (l : Lengths) {k : ℕ} → stitch_alone xs Usual tol l ≡ refused k
-    → 0 ≡ told_count (stitch_comparisons xs tol l)
-refused_compared xs tol l e = rw e
+-- what two tests refuse, they refuse whatever comes after them
+refused_so : {A B C : Type 0} (a b : Bool) (x : A) (y : B) (next : B → Outcome C) (j : ℕ) → unless 8 a (unless 7 b (found x)) ≡ refused j
+    → and_then (unless 8 a (unless 7 b (found y))) next ≡ refused j
+refused_so true true x y next j e = absurd (never_both (sym e))
+refused_so true false x y next j e = cc
+refused_so false b x y next j e = cc
+
+pub comparisons_refused : RefusedAlike
+comparisons_refused xs strictness tol l j e =
+    let s = length xs / 4 in
+    refused_so (eqb (length xs % 4) 0 && leb s 384) (room (4 * s) s (s / 3) l) _ _ _ j e
 
 pub stitch_compared : StitchCompared
 stitch_compared xs tol l =

@@ -2,7 +2,7 @@
 use mathlib.Core.Path.{◌≡◌, refl, sym, ap, ◌∙◌}
 use mathlib.Core.List.{List, [], ◌∷◌, map}
 use mathlib.Core.Bool.{Bool, true, false, false≢true, not, ◌&&◌, cond}
-use Prim.Native.Nat.{ℕ, ◌+◌, ◌*◌, ◌/◌, ◌%◌, ◌<◌}
+use Prim.Native.Nat.{ℕ, ◌+◌, ◌*◌, ◌/◌, ◌%◌, ◌≤◌, ◌<◌}
 use native.Mathlib.Omega.{arith}
 use lib.Dec.{eqb, leb}
 use lib.Ieee.{Float}
@@ -198,6 +198,25 @@ pub unrepeated_when : UnrepeatedWhen
 unrepeated_when l = (unrepeated_once l, once_unrepeated l)
 
 -- ---- one beside the other
+-- walks that pass a narrower test have no more edges
+fewer_edges : (f g : Walk → Bool) → ((w : Walk) → f w ≡ true → g w ≡ true) → (ws : List Walk) → edges_of f ws ≤ edges_of g ws
+fewer_edges f g h [] = omega arith
+fewer_edges f g h (w ∷ ws) = by_tests (f w) (g w) (h w) (fewer_edges f g h ws)
+  where
+    by_tests : (a b : Bool) → (a ≡ true → b ≡ true) → edges_of f ws ≤ edges_of g ws
+        → length (edges_walked (cond a (w ∷ filter f ws) (filter f ws))) ≤ length (edges_walked (cond b (w ∷ filter g ws) (filter g ws)))
+    by_tests true true i r =
+        omega (arith, r, length-append w.edges (edges_walked (filter f ws)), length-append w.edges (edges_walked (filter g ws)))
+    by_tests true false i r = absurd (false≢true (i refl))
+    by_tests false true i r = omega (arith, r, length-append w.edges (edges_walked (filter g ws)))
+    by_tests false false i r = r
+
+-- of three tests
+without_second : (a b c : Bool) → a && (b && c) ≡ true → a && c ≡ true
+without_second true true c e = e
+without_second true false c e = absurd (false≢true e)
+without_second false b c e = e
+
 -- a node list that is reversed repeats a node where it did
 turned_repeated : (ps : List Vector) (l : List ℕ) → repeated (turned ps l) ≡ repeated l
 turned_repeated ps l = by_tests (repeated (turned ps l)) refl (repeated l) refl
@@ -303,6 +322,10 @@ stitched_both_ways tol ss =
           let z = counts_usual ps (usual ps t) n ws refl in
           let o = ap (λ c. c.opened) s ∙ sym (ap (λ c. c.opened) u) in
           omega arith;
+      fewer_in_loops =
+          rw (s, u) (fewer_edges _ _ (λ w. without_second w.closed (not (repeated w.nodes)) (large t ps w)) ws);
+      fewer_flat =
+          rw (s, u) (fewer_edges _ _ (λ w. without_second w.closed (not (repeated w.nodes)) (not (large t ps w))) ws);
       alike = λ z.
           let same = unpinched ps t ws some (sym (ap (λ c. c.pinched) s) ∙ z) in
           rw (same_loops ps t ws same, same_from ps t (unwalked n) ws same) refl;

@@ -2,7 +2,7 @@
 -- proofs/Comparisons.antt.
 use Rattle.std.specs.Prelude.{◌≡◌, List, ℕ, ◌*◌, ◌-◌, ◌/◌, ◌≤◌, length, Float, Result, Ok, Err}
 use Rattle.std.specs.Float.{nan}
-use Rattle.rows.specs.Outcome.{Outcome, found, and_then, Sound, told_count}
+use Rattle.rows.specs.Outcome.{Outcome, refused, found, and_then, Sound, told_count}
 use Rattle.rows.specs.declared.Refusal.{Refusal}
 use Rattle.vector.specs.Rows.{Seg, segs}
 use Rattle.weld.specs.Weld.{comparisons}
@@ -11,9 +11,10 @@ use Rattle.stitch.specs.Claim.{ComparisonsOf}
 use Rattle.stitch.specs.Entry.{Lengths, stitch_alone}
 use Rattle.stitch.specs.declared.Stitched.{Stitched}
 use Rattle.stitch.specs.declared.StitchedSegments.{StitchedSegments}
+use Rattle.stitch.specs.declared.Strictness.{Strictness}
 use Rattle.stitch.specs.declared.Strictness.TheVariants.{Usual}
 
--- refused as stitching alone is, and else the comparisons of the segments that were handed over; the way has no part in either
+-- refused as stitching alone is, and else the comparisons of the segments that were handed over; neither depends on the way
 abbrev pub stitch_comparisons : List Float → Float → Lengths → Outcome ℕ
 stitch_comparisons xs tol l = and_then (stitch_alone xs Usual tol l) (λ a. found (comparisons (rule_of tol).tol2 (segs 2 (length xs / 4) xs)))
 
@@ -30,6 +31,12 @@ stitched_of (Err refusal) = Err refusal
 stitched_of (Ok s) = Ok s.stitched
 
 -- ---- what is told
+
+-- refused where stitching alone is, in either way, with the same number, so that 0 is told then
+abbrev pub RefusedAlike : Type 0
+RefusedAlike =
+    (xs : List Float) (strictness : Strictness) (tol : Float) (l : Lengths) (j : ℕ) → stitch_alone xs strictness tol l ≡ refused j
+    → stitch_comparisons xs tol l ≡ refused j
 
 -- stitching alone tells the comparisons of welding the segments that were handed over, at most s times (2s - 1) of them
 abbrev pub StitchCompared : Type 0

@@ -1,6 +1,6 @@
 -- The usual way and the strict way, each by tests of the walks, and one beside the other. Definitions and statements only; the theorems are
 -- in proofs/Ways.antt.
-use Rattle.std.specs.Prelude.{◌≡◌, List, map, filter, Bool, false, not, ◌&&◌, ◌↔◌, ℕ, ◌+◌, length, Float}
+use Rattle.std.specs.Prelude.{◌≡◌, List, map, filter, Bool, false, not, ◌&&◌, ◌↔◌, ℕ, ◌+◌, ◌≤◌, length, Float}
 use Rattle.std.specs.Float.{binary64}
 use Rattle.std.specs.Float.Ieee.{lt, mul}
 use Rattle.rows.specs.Outcome.{Outcome, refused, found}
@@ -28,7 +28,7 @@ edges_of test ws = length (edges_walked (filter test ws))
 abbrev pub large : Float → List Vector → Walk → Bool
 large t ps w = lt t (abs (signed_area ps w.nodes))
 
--- In the usual way a closed walk is a loop by its area alone, as before there was another way.
+-- In the usual way a closed walk is a loop by its area alone, as in the Rust: no node is asked about.
 abbrev pub UsualAnswer : Type 0
 UsualAnswer =
     (tol : Float) (ss : List Seg) → let t = mul binary64 tol tol in
@@ -83,8 +83,10 @@ pub record StrictOf (a b : Answer) : Type 0 where
   pub loops_are : b.loops ≡ filter (λ l. not (repeated l)) a.loops
   pub listed_are : b.counts.listed ≡ a.counts.listed
   pub opened_are : b.counts.opened ≡ a.counts.opened
-  -- what is pinched was in loops or flat
+  -- what is pinched is missing in loops and among the flat, where there are no more than before
   pub moved : b.counts.in_loops + b.counts.pinched + b.counts.flat ≡ a.counts.in_loops + a.counts.flat
+  pub fewer_in_loops : b.counts.in_loops ≤ a.counts.in_loops
+  pub fewer_flat : b.counts.flat ≤ a.counts.flat
   -- where nothing is pinched, the answers are one
   pub alike : b.counts.pinched ≡ 0 → b ≡ a
 

@@ -1,9 +1,8 @@
 -- `stitch_alone` meets its contract. Assumes nothing.
 use mathlib.Core.Path.{sym}
+use Rattle.rows.proofs.Outcomes.{none_counted}
 use Rattle.stitch.specs.Entry.{buffers, lengths}
-use Rattle.stitch.specs.declared.Strictness.{Strictness}
-use Rattle.stitch.specs.declared.Strictness.TheVariants.{Usual}
-use Rattle.stitch.proofs.Comparisons.{refused_compared}
+use Rattle.stitch.proofs.Comparisons.{comparisons_refused}
 use Rattle.stitch.proofs.Entries.{crowded, gave_refusal, unsuited}
 use Rattle.stitch.proofs.alone.stitch_alone.Goals as goal
 
@@ -11,12 +10,12 @@ pub returns-then-segments-ne0 : goal.returns-then-segments-ne0
 returns-then-segments-ne0 c =
     let g = c.args in
     let l = lengths (buffers g.numbers.now g.nodes.now g.ends.now) in
-    let e = λ (strictness : Strictness). unsuited g.segments.now strictness g.tol l c.then-segments-ne0.either in
-    (gave_refusal _ (e g.strictness), refused_compared g.segments.now g.tol l (e Usual))
+    let e = unsuited g.segments.now g.strictness g.tol l c.then-segments-ne0.either in
+    (gave_refusal _ e, none_counted (comparisons_refused g.segments.now g.strictness g.tol l 8 e))
 
 pub returns-then-not-room : goal.returns-then-not-room
 returns-then-not-room c =
     let g = c.args in
     let l = lengths (buffers g.numbers.now g.nodes.now g.ends.now) in
-    let e = λ (strictness : Strictness). crowded g.segments.now strictness g.tol l c.if-segments-ne0.false c.if-s-gt384.false (sym c.if-not-room.ensures) in
-    (gave_refusal _ (e g.strictness), refused_compared g.segments.now g.tol l (e Usual))
+    let e = crowded g.segments.now g.strictness g.tol l c.if-segments-ne0.false c.if-s-gt384.false (sym c.if-not-room.ensures) in
+    (gave_refusal _ e, none_counted (comparisons_refused g.segments.now g.strictness g.tol l 7 e))
