@@ -7,6 +7,6 @@ use Rattle.stitch.specs.declared.Strictness.TheVariants.{Usual, Strict}
 use Rattle.cuts.specs.Cuts.{Through}
 use Rattle.plane_cut.specs.PlaneCut.{plane_cut}
 
--- For every input: both ways refuse it with one number, or the strict answer is that beside the usual one.
+-- For every input: both ways refuse it with the same number, or the strict answer is that beside the usual one.
 abbrev pub PlaneBothWays : Type 0
 PlaneBothWays = (k : Cell) (g : Through) (tol : Float) (l : Lengths) → BothWays (plane_cut k g Usual tol l) (plane_cut k g Strict tol l)

@@ -83,17 +83,17 @@ pub record StrictOf (a b : Answer) : Type 0 where
   pub loops_are : b.loops ≡ filter (λ l. not (repeated l)) a.loops
   pub listed_are : b.counts.listed ≡ a.counts.listed
   pub opened_are : b.counts.opened ≡ a.counts.opened
-  -- what is pinched is missing in loops and among the flat, where there are no more than before
+  -- there are as many edges in loops, pinched and flat together as in loops and flat, and of these two no more
   pub moved : b.counts.in_loops + b.counts.pinched + b.counts.flat ≡ a.counts.in_loops + a.counts.flat
   pub fewer_in_loops : b.counts.in_loops ≤ a.counts.in_loops
   pub fewer_flat : b.counts.flat ≤ a.counts.flat
-  -- where nothing is pinched, the answers are one
+  -- where nothing is pinched, the answers are equal
   pub alike : b.counts.pinched ≡ 0 → b ≡ a
 
 abbrev pub StitchedBothWays : Type 0
 StitchedBothWays = (tol : Float) (ss : List Seg) → StrictOf (stitched tol ss) (stitched_by Strict tol ss)
 
--- both are refused, with one number, or both are answered, so
+-- both are refused with the same number, or the second is the strict answer beside the first
 abbrev pub BothWays : Outcome Answer → Outcome Answer → Type 0
 BothWays (refused j) (refused k) = j ≡ k
 BothWays (refused j) (found b) = ⊥
