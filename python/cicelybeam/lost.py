@@ -1,13 +1,14 @@
 """Cells where something was not drawn: does the plane only touch them, or is area lost, and how much?
 
 A cell is cut once more by parallel planes just above and below, 4 tolerances away, and 16; where it is not drawn whole there,
-further away. What it has there and nobody draws in the plane itself is missing. A piece along an edge grows with the
-distance, so the two are carried back to distance 0, and a sliver vanishes. No area is lost if what is left is not wider
-than the tolerance. These cuts are in the usual way.
+further away, as long as they meet it. What it has there and nobody draws in the plane itself is missing. A piece along an
+edge grows with the distance, so the two are carried back to distance 0, and a sliver vanishes. No area is lost if what is
+left is not wider than the tolerance. These cuts are in the usual way.
 
 What a cell with pinched edges has is known where the usual way draws it whole in the plane itself: what it has there and
-nobody draws is missing. Without a pinched polygon that bounds a hole, or that a hole lies in, the hole is drawn as if it
-were filled: that much the area is too large.
+nobody draws is missing. Where the usual way does not draw it whole, no less is missing than what it draws and nobody else
+does. Without a pinched polygon that bounds a hole, or that a hole lies in, the hole is drawn as if it were filled: that
+much the area is too large.
 """
 from __future__ import annotations
 
@@ -15,7 +16,7 @@ from dataclasses import dataclass
 from typing import TYPE_CHECKING
 
 import numpy as np
-from shapely.geometry import MultiPoint, Polygon
+from shapely.geometry import MultiPoint
 from shapely.geometry.base import BaseGeometry
 
 from .cells import Cutter, Loops, not_drawn
@@ -34,11 +35,12 @@ GROWTH = 4
 
 @dataclass
 class Near:
-    """Some cells cut by a parallel plane, or by the plane itself, in the usual way: the area of each, whether it is drawn whole, and
-    the rings."""
+    """Some cells cut by a parallel plane, or by the plane itself, in the usual way: the area of each, whether it lists an edge, whether
+    all that it lists is drawn, and the rings."""
 
     cells: np.ndarray
     area: np.ndarray
+    listed: np.ndarray
     whole: np.ndarray
     rings: Rings
 
@@ -70,23 +72,29 @@ def lost_area(mesh: Mesh, frame: Frame, normal: Vector, tol: float, cells: np.nd
     if not len(cells):
         return Lost(cells, np.zeros(0), 0.0, np.zeros(0))
     found = _Estimate(mesh, frame, normal, tol, cells)
-    known = found.drawn_whole(usual, reached.no_segment) if usual else {}
+    pinched = {cell: usual.shape(cell) for cell in usual.cells.tolist()} if usual else {}  # what the usual way draws of them
+    known = found.drawn_whole(usual, reached.no_segment) if usual else set()
     drawn = np.zeros(len(cells))
     own = np.isin(rings.cell, cells)
     np.add.at(drawn, np.searchsorted(cells, rings.cell[own]), rings.area[own])
-    doubtful = np.flatnonzero(found.beyond(drawn, cells) | (found.level < 0).any(axis=0) | np.isin(cells, [*within, *known]))
-    shapes = {int(k): (known[cells[k]], None) if cells[k] in known else found.shapes(int(k), cells[k] in within, loops) for k in doubtful}
+    doubtful = np.flatnonzero(found.beyond(drawn, cells) | found.never | np.isin(cells, [*within, *pinched]))
+    shapes = {int(k): (pinched[cells[k]], None) if cells[k] in known else found.shapes(int(k), cells[k] in within, loops) for k in doubtful}
     area, filled, pieces = np.zeros(len(cells)), np.zeros(len(cells)), []
-    holes = {cell: less(_shape(rings, cell), [shape]) for cell, shape in known.items()}  # drawn as if they were filled
-    covered = _Drawn(rings, [shape for pair in shapes.values() for shape in pair], holes)
+    holes = {cell: less(_shape(rings, cell), [shape]) for cell, shape in pinched.items()}  # drawn as if they were filled
+    covered = _Drawn(rings, [shape for pair in (*shapes.values(), pinched.values()) for shape in pair], holes)
     for k, (at, further) in shapes.items():
         piece = covered.less(at)
         missing = piece.area if further is None else (GROWTH * piece.area - covered.less(further).area) / (GROWTH - 1)
+        if cells[k] in pinched:
+            usually = pinched[cells[k]]
+            least = covered.less(usually)
+            if least.area > missing:
+                at, piece, missing = usually, least, least.area
+            if holes[cells[k]].area > tol * usually.length / 2:
+                filled[k] = holes[cells[k]].area
         if missing > (1e-9 * at.area if cells[k] in within else tol * at.length / 2):
             area[k] = missing
             pieces.append(piece)
-        if cells[k] in holes and holes[cells[k]].area > tol * at.length / 2:
-            filled[k] = holes[cells[k]].area
     return Lost(cells, area, float(union(pieces).area) if pieces else 0.0, filled)
 
 
@@ -118,11 +126,15 @@ class _Estimate:
         self.cuts: dict[tuple[int, int], Near] = {}
         for side in (0, 1):
             self._settle(side)
+        reached = np.logical_or(*(self.cut(side, 0).listed for side in (0, 1)))
+        self.never = (self.level < 0).any(axis=0) | ~reached  # never drawn whole above, or below, or not met by a parallel plane
 
     def _settle(self, side: int) -> None:
         for level in range(LEVELS - 1):
             one, two = self.cut(side, level), self.cut(side, level + 1)
             new = one.whole & two.whole & (self.level[side] < 0)
+            # A plane that has left a cell tells nothing of it; where the nearest does not meet it, it has nothing on that side.
+            new &= one.listed & two.listed if level else two.listed | ~one.listed
             self.level[side, new] = level
             back = (GROWTH * one.area - two.area) / (GROWTH - 1)
             self.area[new] = np.fmax(self.area[new], back[new])
@@ -134,10 +146,10 @@ class _Estimate:
         at = np.searchsorted(self.cells, cells)
         return ~(self.area[at] - area <= self.tol * self.size[at])
 
-    def drawn_whole(self, usual: Near, gaps: np.ndarray) -> dict[int, BaseGeometry]:
-        """What the usual way draws of the cells that it draws whole: of those with a gap, where they have no more than that."""
+    def drawn_whole(self, usual: Near, gaps: np.ndarray) -> set[int]:
+        """The cells that the usual way draws whole: of those with a gap, where they have no more than it draws."""
         whole = usual.whole & ~(np.isin(usual.cells, gaps) & self.beyond(usual.area, usual.cells))
-        return {cell: usual.shape(cell) for cell in usual.cells[whole].tolist()}
+        return set(usual.cells[whole].tolist())
 
     def cut(self, side: int, level: int) -> Near:
         if (side, level) not in self.cuts:
@@ -148,15 +160,15 @@ class _Estimate:
 
     def shapes(self, k: int, flat: bool, loops: Loops) -> tuple[BaseGeometry, BaseGeometry | None]:
         """The section of a cell above and below together, at two distances; of a cell that is never drawn whole, the hull of
-        its points in the plane, and of one within the tolerance, that of its corners."""
+        its points in the plane if it has any, and of one within the tolerance, that of its corners."""
         cell = int(self.cells[k])
         if flat:
             return MultiPoint(self.frame.in_plane(self.mesh.points[self.mesh.corners(cell)])).convex_hull, None
-        if (self.level[:, k] < 0).any():
-            row = np.searchsorted(loops.cells, cell)
-            listed = row < len(loops.cells) and loops.cells[row] == cell
-            return MultiPoint(loops.points[slice(*loops.cell_points[row])]).convex_hull if listed else Polygon(), None
-        at, further = (union([self.cut(side, self.level[side, k] + more).shape(cell) for side in (0, 1)]) for more in (0, 1))
+        row = np.searchsorted(loops.cells, cell)
+        if self.never[k] and row < len(loops.cells) and loops.cells[row] == cell:
+            return MultiPoint(loops.points[slice(*loops.cell_points[row])]).convex_hull, None
+        known = [(side, self.level[side, k]) for side in (0, 1) if self.level[side, k] >= 0]
+        at, further = (union([self.cut(side, level + more).shape(cell) for side, level in known]) for more in (0, 1))
         return at, further
 
 
@@ -181,7 +193,8 @@ def cut_alone(mesh: Mesh, origin: Vector, normal: Vector, tol: float, cells: np.
         cutter.cut(block, part)
     loops = cutter.loops()
     rings = simple_rings(loops, tol)
-    area, whole = np.zeros(len(cells)), np.ones(len(cells), dtype=bool)
+    area, listed, whole = np.zeros(len(cells)), np.zeros(len(cells), dtype=bool), np.ones(len(cells), dtype=bool)
     np.add.at(area, np.searchsorted(cells, rings.cell), rings.area)
+    listed[np.searchsorted(cells, loops.cells)] = True
     whole[np.searchsorted(cells, loops.cells)] = not_drawn(loops.counts) == 0
-    return Near(cells, area, whole, rings)
+    return Near(cells, area, listed, whole, rings)

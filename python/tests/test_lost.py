@@ -82,6 +82,33 @@ def test_never_drawn_whole():
     assert record.lost_area == pytest.approx(1) and record.undrawn[0].reason == "area lost"
 
 
+@pytest.mark.parametrize("height", [1, 1e-4, 3e-5, 1e-5, 7e-6])
+@pytest.mark.parametrize("tol", [2e-7, 1e-6])
+def test_never_drawn_whole_where_parallel_planes_leave_it(height, tol):
+    """The same polyhedron, so low that the further parallel planes, or all of them, do not meet it."""
+    mesh = without(OPEN_BRICK)
+    mesh.points = mesh.points * [1, 1, height]
+    record = cicelybeam.cut_plane(mesh, (0, 0, height / 2), (0, 0, 1), tol).record
+    assert (record.area, record.open) == (0, 3) and record.lost_area == pytest.approx(1) and [status for status, _ in record.reasons] == [3]
+
+
+def test_a_small_cell_in_a_large_mesh():
+    """Its size is that of the distance of the parallel planes, with the mesh's own tolerance."""
+    points = np.concatenate([1e-5 * CUBE, 8 * CUBE + 20])
+    mesh = meshio.Mesh(points, [("polyhedron8", [[np.array(face) for face in OPEN_BRICK]]), ("hexahedron", [list(range(8, 16))])])
+    record = cicelybeam.cut_plane(mesh, (0, 0, 0.5e-5), (0, 0, 1)).record
+    assert record.lost_area == pytest.approx(1e-10) and [cell.reason for cell in record.undrawn] == ["area lost"]
+
+
+@pytest.mark.parametrize("side", [1, -1])
+@pytest.mark.parametrize("width,height", [(1, 1), (1, 1e-5), (1, 2e-6), (1e-3, 1), (1e-6, 1), (1e-6, 2e-6)])
+def test_touched_where_parallel_planes_leave_it(width, height, side):
+    """Touched along an edge, also where the cell is lower than the distance of the nearest parallel plane, or too narrow to be drawn."""
+    points = np.array([[0, 0, 0], [1, 0, 0], [0.5, width, side * height], [0.5, -width, side * height]])
+    record = cicelybeam.cut_plane(meshio.Mesh(points, [("tetra", [[0, 1, 2, 3]])]), (0, 0, 0), (0, 0, 1), 1e-6).record
+    assert (record.open + record.flat, record.touching_cells, record.lost_area, record.reasons) == (1, 1, 0, [])
+
+
 @settings(max_examples=60)
 @given(st.sampled_from([("hexahedron", 0.3), ("wedge", 0.15), ("tetra", 0.15)]), st.integers(1, 3), st.integers(0, 2**32 - 1),
        st.floats(0.05, 1), st.integers(0, 2), st.booleans())

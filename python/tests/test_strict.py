@@ -248,6 +248,49 @@ def test_a_tolerance_below_the_meshs_own():
     assert strict.counts.tolist() == [[11, 3, 8, 0, 0]] and strict.record.lost_area == pytest.approx(5, rel=1e-6)
 
 
+def with_a_free_face(mesh: meshio.Mesh, end: tuple[float, float], half: float) -> meshio.Mesh:
+    """Walls with one face more, from this point 0.5 along x, so far above z = 0.5 and below it, which no other face meets: its edge is open."""
+    (x, y), n = end, len(mesh.points)
+    corners = [(x, y, 0.5 - half), (x + 0.5, y, 0.5 - half), (x + 0.5, y, 0.5 + half), (x, y, 0.5 + half)]
+    faces = [*mesh.cells[0].data[0], np.arange(n, n + 4)]
+    return meshio.Mesh(np.concatenate([mesh.points, corners]), [(f"polyhedron{n + 4}", [faces])])
+
+
+def barrel(*outlines) -> meshio.Mesh:
+    """Walls that come to a quarter of their width above z = 0.5 and below it."""
+    below, above = walls(*outlines), walls(*outlines, top=0.25)
+    n = len(below.points)
+    below.points[below.points[:, 2] == 0, :2] /= 4
+    points = np.concatenate([below.points * [1, 1, 0.5], above.points * [1, 1, 0.5] + [0, 0, 0.5]])
+    return meshio.Mesh(points, [(f"polyhedron{2 * n}", [[*below.cells[0].data[0], *(n + np.array(face) for face in above.cells[0].data[0])]])])
+
+
+def test_lost_as_the_usual_way_draws_it_where_that_is_not_whole():
+    """Nearer to the plane than 0.05 a face is open, and further away the section is smaller: what is carried back from there is too little."""
+    usual, strict = both(with_a_free_face(barrel(*TWO), (4, 4), 0.05), *MIDDLE, 1e-6)
+    assert usual.counts.tolist() == [[9, 8, 0, 0, 1]] and strict.counts.tolist() == [[9, 0, 8, 0, 1]]
+    assert usual.record.area == pytest.approx(5) and usual.record.lost_area == 0
+    assert strict.record.area == 0 and strict.record.lost_area == pytest.approx(5)
+
+
+@pytest.mark.parametrize("tol", [None, 1e-6])
+def test_pinched_and_open(tol):
+    """Two squares side by side, whose common edge is listed once, and a third that lies along an edge of the first: no parallel plane draws them whole."""
+    mesh = waist([(-1, 2), (2, 2), (2, 5), (-1, 5)], [(-1, 5), (2, 5), (2, 8), (-1, 8)], [(-2, 2), (-1, 2), (-1, 3), (-2, 3)])
+    usual, strict = both(mesh, *MIDDLE, tol)
+    assert usual.counts.tolist() == [[11, 10, 0, 0, 1]] and strict.counts.tolist() == [[11, 0, 10, 0, 1]]
+    assert usual.record.area == pytest.approx(19) and strict.record.area == 0
+    assert strict.record.lost_area == pytest.approx(19 + usual.record.lost_area) and [status for status, _ in strict.record.reasons] == [3]
+
+
+@pytest.mark.parametrize("tol", [None, 1e-6])
+def test_a_hole_is_filled_where_the_usual_way_is_not_whole(tol):
+    usual, strict = (cut.record for cut in both(with_a_free_face(walls(*PINCHED_HOLE), (3.5, 3.5), 0.5), *MIDDLE, tol))
+    assert (usual.pinched, usual.open, usual.filled_area) == (0, 1, 0) and (strict.pinched, strict.open) == (8, 1)
+    assert [usual.area, strict.area, strict.filled_area] == pytest.approx([31, 36, 5])
+    assert strict.area + strict.lost_area - strict.filled_area == pytest.approx(usual.area + usual.lost_area)
+
+
 def test_a_filled_hole_is_told():
     cut = cicelybeam.cut_plane(walls(*PINCHED_HOLE), *MIDDLE, strict=True)
     record = cut.record
