@@ -9,11 +9,12 @@ ACROSS = np.array([0.7548776662466927, 0.5698402909980532])
 NEIGHBOURS = 16
 
 
-def coinciding(points: np.ndarray, nodes: np.ndarray, ends: np.ndarray, hole: np.ndarray, tol: float) -> np.ndarray:
-    """For each ring the first one that it coincides with, or its own number.
+def coinciding(points: np.ndarray, nodes: np.ndarray, ends: np.ndarray, holes: np.ndarray, tol: float) -> np.ndarray:
+    """For each ring the first one that it coincides with, or its own number. `holes` is how many holes each ring has, or -1 where it
+    bounds one.
 
-    Rings coincide if they have the same number of points, each within twice the tolerance of one of the other's, and bound
-    holes both or neither: a cell that fills a hole of another draws what that one does not. Then their means are about as
+    Rings coincide if they have the same number of points, each within twice the tolerance of one of the other's, and as many
+    holes, or bound holes both: a cell that fills a hole of another draws what that one does not. Then their means are about as
     close, so they are looked for among neighbours in one direction. Rings that are not wider than some tolerances do not
     count: neighbours among them are as close.
     """
@@ -29,7 +30,7 @@ def coinciding(points: np.ndarray, nodes: np.ndarray, ends: np.ndarray, hole: np
         near = place[b] - place[a] <= 4 * tol
         if not near.any():
             break
-        pairs = np.stack([a, b], axis=1)[near & (lengths[a] == lengths[b]) & (hole[a] == hole[b])]
+        pairs = np.stack([a, b], axis=1)[near & (lengths[a] == lengths[b]) & (holes[a] == holes[b])]
         for one, other in pairs[_match(points, nodes, starts, lengths, pairs, 2 * tol)].tolist():
             _join(first, one, other)
     for k in np.flatnonzero(first != np.arange(len(first))):

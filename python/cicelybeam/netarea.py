@@ -32,7 +32,7 @@ class NetArea:
 
 
 def net_area(rings: Rings, side: np.ndarray, tol: float) -> NetArea:
-    first = coinciding(rings.points, rings.nodes, rings.ends, rings.hole, tol)
+    first = _first_alike(rings, tol)
     again = first != np.arange(len(first))
     alone = ~again
     alone[first[again]] = False
@@ -41,6 +41,22 @@ def net_area(rings: Rings, side: np.ndarray, tol: float) -> NetArea:
     if repeated <= ROUNDING * total:
         repeated = 0.0
     return NetArea(total - repeated, repeated, int((~alone).sum()), int((again & (side == 0)).sum()))
+
+
+def _first_alike(rings: Rings, tol: float) -> np.ndarray:
+    """For each ring the first one that it coincides with, or its own number; a ring with holes and these coincide only all together."""
+    bounding = np.flatnonzero(rings.hole)
+    holes = np.bincount(rings.outer[bounding], minlength=len(rings.ends))
+    holes[bounding] = -1
+    first = coinciding(rings.points, rings.nodes, rings.ends, holes, tol)
+    found = np.where(holes == 0, first, np.arange(len(first)))
+    bounding = bounding[np.lexsort((first[bounding], rings.outer[bounding]))]
+    outers, starts = np.unique(rings.outer[bounding], return_index=True)
+    known: dict[tuple[int, ...], np.ndarray] = {}
+    for outer, own in zip(outers, np.split(bounding, starts[1:])):
+        whole = np.array([outer, *own])
+        found[whole] = known.setdefault(tuple(first[whole].tolist()), whole)
+    return found
 
 
 def _repeated(rings: Rings, side: np.ndarray, touched: np.ndarray) -> float:

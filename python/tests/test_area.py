@@ -83,9 +83,9 @@ def test_narrow_neighbours_do_not_coincide():
     from cicelybeam.coincident import coinciding
 
     strips = [[(0, y), (1, y), (1, y + 1e-12), (0, y + 1e-12)] for y in np.arange(4) * 1e-12]
-    assert coinciding(np.concatenate(strips), np.arange(16), np.arange(1, 5) * 4, np.zeros(4, bool), 1e-12).tolist() == [0, 1, 2, 3]
+    assert coinciding(np.concatenate(strips), np.arange(16), np.arange(1, 5) * 4, np.zeros(4, int), 1e-12).tolist() == [0, 1, 2, 3]
     wide = [[(0, 0), (1, 0), (1, 1), (0, 1)]] * 2
-    assert coinciding(np.concatenate(wide).astype(float), np.arange(8), np.array([4, 8]), np.zeros(2, bool), 1e-12).tolist() == [0, 0]
+    assert coinciding(np.concatenate(wide).astype(float), np.arange(8), np.array([4, 8]), np.zeros(2, int), 1e-12).tolist() == [0, 0]
 
 
 @given(st.lists(st.integers(0, 6), min_size=3, max_size=12))
@@ -124,6 +124,51 @@ def test_cell_that_fills_a_hole_of_another():
         cut = cicelybeam.cut_plane(meshio.Mesh(around.points, [*around.cells, ("hexahedron", bricks * [brick])]), (0, 0, 0.5), (0, 0, 1))
         assert cut.record.area == pytest.approx(16) and cut.record.coincident_polygons == coincident
         assert cut.record.repeated_area == pytest.approx(4 * (bricks - 1))
+
+
+def cells_of_walls(*cells) -> meshio.Mesh:
+    """Each cell is a polyhedron of walls over its outlines, given after the heights of its base and its top."""
+    points, blocks = [], []
+    for low, high, *outlines in cells:
+        faces = []
+        for outline in outlines:
+            first, n = len(points), len(outline)
+            points += [(x, y, z) for z in (low, high) for x, y in outline]
+            faces += [np.array([first + k, first + (k + 1) % n, first + n + (k + 1) % n, first + n + k]) for k in range(n)]
+        blocks.append((f"polyhedron{sum(2 * len(outline) for outline in outlines)}", [faces]))
+    return meshio.Mesh(np.array(points, dtype=float), blocks)
+
+
+LARGE, HOLE, OTHER = square(0, 0, 6), square(1, 1, 2), square(4, 4, 1)
+
+
+@pytest.mark.parametrize("one,other,area,repeated,coincident", [
+    ([LARGE, HOLE], [LARGE], 36, 32, 0),
+    ([LARGE, HOLE], [LARGE, HOLE], 32, 32, 4),
+    ([LARGE, HOLE], [LARGE, OTHER], 36, 31, 0),  # another hole
+    ([LARGE, HOLE], [LARGE, HOLE, OTHER], 32, 31, 0),  # one hole more
+    ([LARGE, HOLE, OTHER], [LARGE, OTHER, HOLE], 31, 31, 6),
+    ([LARGE, HOLE], [square(-1, -1, 8), HOLE], 60, 32, 0),  # the same hole in a larger square
+    ([LARGE, HOLE], [HOLE], 36, 0, 0),
+])
+@pytest.mark.parametrize("turned", [False, True])
+def test_sides_with_holes(one, other, area, repeated, coincident, turned):
+    """Cells below the plane and above it that it touches."""
+    below, above = (other, one) if turned else (one, other)
+    for cells in ((-1, 0, *below), (0, 1, *above)), ((0, 1, *above), (-1, 0, *below)):
+        record = cicelybeam.cut_plane(cells_of_walls(*cells), (0, 0, 0), (0, 0, 1)).record
+        assert [record.area, record.repeated_area] == pytest.approx([area, repeated]) and record.coincident_polygons == coincident
+        assert record.listed == record.in_loops and record.reasons == []
+
+
+def test_cells_with_holes_that_are_there_twice():
+    """They count once, and one with another hole in the same square does not make them one."""
+    record = cicelybeam.cut_plane(cells_of_walls(*2 * [(0, 1, LARGE, HOLE)]), (0, 0, 0.5), (0, 0, 1)).record
+    assert [record.area, record.repeated_area] == pytest.approx([32, 32]) and (record.coincident_polygons, record.doubled_polygons) == (4, 2)
+    sides = [(-1, 0, LARGE, OTHER), *2 * [(0, 1, LARGE, HOLE)]]
+    for cells in sides, sides[::-1]:
+        record = cicelybeam.cut_plane(cells_of_walls(*cells), (0, 0, 0), (0, 0, 1)).record
+        assert record.coincident_polygons == 4
 
 
 @settings(max_examples=60)

@@ -332,7 +332,7 @@ def test_coinciding_polygons(place_of_first, shift):
     tol = 1.0
     square = 1000 * np.array([[-1, -1], [1, -1], [1, 1], [-1, 1]]) + np.array(place_of_first)
     points = np.concatenate([square, square + shift, square + 10])
-    assert coinciding(points, np.arange(12), np.array([4, 8, 12]), np.zeros(3, bool), tol).tolist() == [0, 0, 2]
+    assert coinciding(points, np.arange(12), np.array([4, 8, 12]), np.zeros(3, int), tol).tolist() == [0, 0, 2]
 
 
 def test_plane_that_misses_the_mesh(cube):
