@@ -35,12 +35,15 @@ def net_area(rings: Rings, side: np.ndarray, tol: float) -> NetArea:
     first = _first_alike(rings, tol)
     again = first != np.arange(len(first))
     alone = ~again
-    alone[first[again]] = False
+    alone[first[again & (side != side[first])]] = False  # where cells are in the mesh twice, one of them is held against the other side
+    through = np.flatnonzero(side == 0)
+    through = through[np.sort(np.unique(first[through], return_index=True)[1])]
     total = float(rings.area.sum())
-    repeated = float(rings.area[again].sum()) + _repeated(rings, side, alone & (side != 0))
+    repeated = float(rings.area[again].sum()) + _repeated(rings, side, alone & (side != 0), through)
     if repeated <= ROUNDING * total:
         repeated = 0.0
-    return NetArea(total - repeated, repeated, int((~alone).sum()), int((again & (side == 0)).sum()))
+    coincident = len(np.union1d(np.flatnonzero(again), first[again]))
+    return NetArea(total - repeated, repeated, coincident, int((again & (side == 0)).sum()))
 
 
 def _first_alike(rings: Rings, tol: float) -> np.ndarray:
@@ -59,10 +62,9 @@ def _first_alike(rings: Rings, tol: float) -> np.ndarray:
     return found
 
 
-def _repeated(rings: Rings, side: np.ndarray, touched: np.ndarray) -> float:
-    """What touched rings that coincide with no other have in common with those of the other side, and with what is passed through."""
+def _repeated(rings: Rings, side: np.ndarray, touched: np.ndarray, through: np.ndarray) -> float:
+    """What touched rings that coincide with none of the other side have in common with that side's, and with what is passed through."""
     above, below = (np.flatnonzero(touched & (side == way)) for way in (1, -1))
-    through = np.flatnonzero(side == 0)
     if not (len(above) and len(below)) and not ((len(above) or len(below)) and len(through)):
         return 0.0
     chosen = np.concatenate([above, below])

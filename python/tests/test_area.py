@@ -168,7 +168,22 @@ def test_cells_with_holes_that_are_there_twice():
     sides = [(-1, 0, LARGE, OTHER), *2 * [(0, 1, LARGE, HOLE)]]
     for cells in sides, sides[::-1]:
         record = cicelybeam.cut_plane(cells_of_walls(*cells), (0, 0, 0), (0, 0, 1)).record
-        assert record.coincident_polygons == 4
+        assert record.area == pytest.approx(36) and record.coincident_polygons == 4
+
+
+@pytest.mark.parametrize("cells,area,coincident", [
+    ([*2 * [(-1, 0, LARGE)], (0, 1, square(0, 0, 3))], 36, 2),
+    ([*2 * [(-1, 0, square(0, 0, 3))], (0, 1, LARGE)], 36, 2),
+    ([*2 * [(-1, 0, LARGE)], *2 * [(0, 1, square(3, 3, 6))]], 36 + 36 - 9, 4),
+    ([*2 * [(-1, 0, LARGE)], (0, 1, LARGE)], 36, 3),
+    ([*2 * [(-1, 1, LARGE)], (0, 1, square(0, 0, 3))], 36, 2),
+    ([(-1, 1, LARGE), *2 * [(0, 1, square(0, 0, 3))]], 36, 2),
+    ([(0, 1, LARGE), *2 * [(-1, 1, LARGE)], (-1, 0, square(0, 0, 3))], 36, 3),
+])
+def test_cells_that_are_there_twice_and_others_over_them(cells, area, coincident):
+    for order in cells, cells[::-1]:
+        record = cicelybeam.cut_plane(cells_of_walls(*order), (0, 0, 0), (0, 0, 1)).record
+        assert record.area == pytest.approx(area) and record.coincident_polygons == coincident
 
 
 @settings(max_examples=60)
