@@ -27,6 +27,7 @@ PLANE_COLUMNS = ("polygon", "cell", "type", "group", "area", "hole_of", "side", 
 CELL_COLUMNS = ("cell", "type", "group", *COUNTS, "defaulted", "comparisons", "area", "x", "y", "z")
 TRACE_COLUMNS = ("cell", "type", "group", "face", "u1", "v1", "u2", "v2", "x1", "y1", "z1", "x2", "y2", "z2")
 OF_RING = ("area", "side", "hole_of")  # what a ring has beside its cell's data
+CELLS_ONLY = (".vtu", ".vtk")  # meshio fails to write these files without a cell
 SIDES = {0: "", 1: "above", -1: "below"}
 
 
@@ -230,6 +231,8 @@ def write_polygons(cut: PlaneCut, path: Path) -> None:
     """The rings in space, with `polygon_data` and the fields of nodes; as .vtp with the edges that were not drawn."""
     check_suffix(path, POLYGONS, "a file that can hold polygons")
     check_places(cut.mesh.source, [path])
+    if not len(cut.ends) and path.suffix.lower() in CELLS_ONLY:
+        raise CicelybeamError(f"{path}: no polygon is drawn, and meshio writes no {path.suffix.lower()} file without cells: give a .vtp file")
     with whole(path) as place:
         if path.suffix.lower() == ".vtp":
             edges = undrawn_edges(cut)

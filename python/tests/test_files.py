@@ -151,6 +151,14 @@ def test_formats_that_cannot_hold_polygons(tmp_path, capsys):
         assert "can hold polygons" in capsys.readouterr().err
 
 
+@pytest.mark.parametrize("suffix,status", [(".vtp", 0), (".vtu", 1), (".VTK", 1), (".ply", 0), (".obj", 0)])
+def test_files_without_a_polygon(path, tmp_path, capsys, suffix, status):
+    out = tmp_path / f"a{suffix}"
+    assert run("plane", path, "--origin", "0,0,7", "--normal", "z", "--quiet", "--vtk", out) == status and out.exists() == (status == 0)
+    words = f"{out}: no polygon is drawn, and meshio writes no {suffix.lower()} file without cells: give a .vtp file\n"
+    assert (words in capsys.readouterr().err) == (status == 1)
+
+
 @pytest.mark.parametrize("suffix", [s for s in outputs.POLYGONS if s != ".vtp"])
 def test_formats_that_hold_polygons(tmp_path, capsys, suffix):
     cut = cicelybeam.cut_plane(box(2), (0.1, 0.2, 0.3), (1, 2, 3))
