@@ -85,16 +85,15 @@ def lost_area(mesh: Mesh, frame: Frame, normal: Vector, tol: float, cells: np.nd
     for k, (at, further) in shapes.items():
         piece = covered.less(at)
         missing = piece.area if further is None else (GROWTH * piece.area - covered.less(further).area) / (GROWTH - 1)
-        if cells[k] in pinched:
-            usually = pinched[cells[k]]
-            least = covered.less(usually)
+        if cells[k] in pinched and cells[k] not in known:
+            least = covered.less(pinched[cells[k]])
             if least.area > missing:
-                at, piece, missing = usually, least, least.area
-            if holes[cells[k]].area > tol * usually.length / 2:
-                filled[k] = holes[cells[k]].area
+                at, piece, missing = pinched[cells[k]], least, least.area
         if missing > (1e-9 * at.area if cells[k] in within else tol * at.length / 2):
             area[k] = missing
             pieces.append(piece)
+        if cells[k] in pinched and holes[cells[k]].area > tol * pinched[cells[k]].length / 2:
+            filled[k] = holes[cells[k]].area
     return Lost(cells, area, float(union(pieces).area) if pieces else 0.0, filled)
 
 
