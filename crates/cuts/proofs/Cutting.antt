@@ -78,16 +78,16 @@ cut_sound P Q w k c xs by work h f =
 
 -- a cell in space, cut by a normal or along a direction
 pub space_cut_sound : {A : Type 0} (P : A → Type 0) (k : Cell) (way : Way) (g : Through) (work : ℕ → List Polygon → Plane → Outcome A)
-    → ((ps : List Polygon) → space_cell k ≡ found ps → (f : Plane) → frame_by way g.origin g.vector ≡ Some f
+    → ((ps : List Polygon) → space_cell k ≡ found ps → (f : Plane) → frame_by way g ≡ Some f
     → Sound 1 7 P (work (length (flatten ps)) ps f))
     → Sound 1 7 P (cut_cell (space_cell k) (place_in way g) work)
 space_cut_sound P k way g work =
-    cut_sound P (λ f. frame_by way g.origin g.vector ≡ Some f) 3 (typed_in_space (space_type k.cell_type)) k.conn k.coords (place_in way g) work
+    cut_sound P (λ f. frame_by way g ≡ Some f) 3 (typed_in_space (space_type k.cell_type)) k.conn k.coords (place_in way g) work
     (place_sound way g)
 
 -- and if the work gives, where there is room, what is made of the polygons
 pub made_sound : {A : Type 0} (P : A → Type 0) (k : Cell) (way : Way) (g : Through) (room : ℕ → Bool) (made : List Polygon → Plane → A)
-    → ((ps : List Polygon) → space_cell k ≡ found ps → (f : Plane) → frame_by way g.origin g.vector ≡ Some f → P (made ps f))
+    → ((ps : List Polygon) → space_cell k ≡ found ps → (f : Plane) → frame_by way g ≡ Some f → P (made ps f))
     → Sound 1 7 P (cut_cell (space_cell k) (place_in way g) (λ m ps f. unless 7 (room m) (found (made ps f))))
 made_sound P k way g room made h =
     space_cut_sound P k way g (λ m ps f. unless 7 (room m) (found (made ps f)))

@@ -23,7 +23,5 @@ frame_sound : (x : Option Plane) → Sound 1 7 (λ f. x ≡ Some f) (frame_in x)
 frame_sound (Some f) = refl
 frame_sound None = (omega arith, omega arith)
 
-pub place_sound : (way : Way) (g : Through) → Sound 1 7 (λ f. frame_by way g.origin g.vector ≡ Some f) (place_in way g)
-place_sound way g =
-    sound_placed 3 g (frame_in (frame_by way g.origin g.vector)) (λ f. frame_by way g.origin g.vector ≡ Some f)
-    (frame_sound (frame_by way g.origin g.vector))
+pub place_sound : (way : Way) (g : Through) → Sound 1 7 (λ f. frame_by way g ≡ Some f) (place_in way g)
+place_sound way g = sound_placed 3 g (frame_in (frame_by way g)) (λ f. frame_by way g ≡ Some f) (frame_sound (frame_by way g))

@@ -11,7 +11,7 @@ use Rattle.stitch.specs.Claim.{ComparisonsOf}
 use Rattle.stitch.specs.Code.{AnswerGiven}
 use Rattle.stitch.specs.Entry.{Buffers}
 use Rattle.stitch.specs.declared.Strictness.{Strictness}
-use Rattle.cuts.specs.Cuts.{Through, section_by, segments_on, through}
+use Rattle.cuts.specs.Cuts.{Through, section_by, segments_on, through_by}
 use Rattle.cuts.specs.Defaulted.{defaulted_by}
 use Rattle.cuts.specs.declared.CellSection.{CellSection}
 use Rattle.cuts.specs.declared.Through as code
@@ -20,7 +20,7 @@ use Rattle.cuts.specs.declared.Size.TheVariants.{Fixed, Small, Large}
 
 -- a cut as the code is lent it
 abbrev pub through_of : code.Through → Through
-through_of g = through g.origin.now g.vector.now
+through_of g = through_by g.scaling g.origin.now g.vector.now
 
 -- its point and its vector
 abbrev pub rows_of : code.Through → Vector × Vector

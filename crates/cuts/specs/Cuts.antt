@@ -1,45 +1,63 @@
 -- What all cuts of docs/RULES.md share: how a cut is placed, the order of their refusals, and the section of a cell by a plane.
 -- Definitions only.
 use mathlib.Core.List.{List, flatten}
-use Rattle.std.specs.Prelude.{◌&&◌, ℕ, eqb, length, Float, Option, Some, None}
+use Rattle.std.specs.Prelude.{◌&&◌, cond, ℕ, eqb, length, Float, Option, Some, None}
+use Rattle.std.specs.Option.{option_and_then}
 use Rattle.rows.specs.Outcome.{Outcome, refused, found, and_then, unless}
-use Rattle.vector.specs.Vector.{plane_of, line_of}
+use Rattle.vector.specs.Vector.{Vector, plane_of, line_of}
+use Rattle.vector.specs.Scaled.{scaled_normal}
 use Rattle.vector.specs.declared.Plane.{Plane}
 use Rattle.vector.specs.Rows.{Seg}
 use Rattle.cell.specs.Read.{Polygon}
 use Rattle.clip.specs.Cell.{cut_by, cell_segments}
 use Rattle.stitch.specs.Stitch.{Answer, stitched, stitched_by}
 use Rattle.stitch.specs.declared.Strictness.{Strictness}
+use Rattle.cuts.specs.declared.Scaling.{Scaling}
+use Rattle.cuts.specs.declared.Scaling.TheVariants.{AsGiven, Scaled}
 use Rattle.cuts.specs.declared.Way as W
 use Rattle.cuts.specs.declared.Way.TheVariants as w
 
 -- ---- placing
 
--- a cut as it is given: a point of it, and its normal or its direction
+-- a cut as it is given: a point of it, its normal or its direction, and the way in which a normal is taken
 pub record Through : Type 0 where
   pub origin : List Float
   pub vector : List Float
+  pub scaling : Scaling
 
+abbrev pub through_by : Scaling → List Float → List Float → Through
+through_by scaling o v = record { origin = o; vector = v; scaling = scaling }
+
+-- and in the way that was there first, as a direction is taken
 abbrev pub through : List Float → List Float → Through
-through o v = record { origin = o; vector = v }
+through o v = through_by AsGiven o v
+
+-- the way that a yes or no asks for: 0 is no, anything else is yes
+abbrev pub scaling_of : ℕ → Scaling
+scaling_of n = cond (eqb n 0) AsGiven Scaled
 
 -- 5: both have w numbers
 abbrev pub placed_by : {A : Type 0} → ℕ → Through → Outcome A → Outcome A
 placed_by w g next = unless 5 (eqb (length g.origin) w && eqb (length g.vector) w) next
 
--- 6: a unit was taken of a vector whose norm is not greater than 0
+-- 6: a unit was taken of a vector whose norm is not greater than 0, or a component to be scaled is not finite
 abbrev pub frame_in : Option Plane → Outcome Plane
 frame_in None = refused 6
 frame_in (Some f) = found f
 
--- the plane with a normal, or the plane that holds the line with a direction
-abbrev pub frame_by : W.Way → List Float → List Float → Option Plane
-frame_by w.Normal = plane_of
-frame_by w.Direction = line_of
+-- a normal as it is given, or scaled, which asks that every component is finite
+abbrev pub taken : Scaling → Vector → Option Vector
+taken AsGiven = Some
+taken Scaled = scaled_normal
+
+-- the plane with a normal, in the way asked for, or the plane that holds the line with a direction, which is never scaled
+abbrev pub frame_by : W.Way → Through → Option Plane
+frame_by w.Normal g = option_and_then (plane_of g.origin) (taken g.scaling g.vector)
+frame_by w.Direction g = line_of g.origin g.vector
 
 -- 5 and 6 in space
 abbrev pub place_in : W.Way → Through → Outcome Plane
-place_in way g = placed_by 3 g (frame_in (frame_by way g.origin g.vector))
+place_in way g = placed_by 3 g (frame_in (frame_by way g))
 
 -- ---- a cut
 

@@ -8,7 +8,7 @@ ghost use Rattle.cell.specs.Read.{cell_of, polygons_of, space_cell};
 ghost use Rattle.clip.specs.Cell.{cut_by};
 ghost use Rattle.clip.specs.Code.{CellCut};
 ghost use Rattle.stitch.specs.Entry.{buffers};
-ghost use Rattle.cuts.specs.Cuts.{frame_by, place_in, placed_by};
+ghost use Rattle.cuts.specs.Cuts.{frame_by, place_in, placed_by, scaling_of, taken, through_by};
 ghost use Rattle.cuts.specs.Code.{CellFits, Roomy, SectionGiven, Sized, rows_of, through_of};
 
 use cell::accepted::SpaceCell;
@@ -16,7 +16,7 @@ use cell::types::SpaceType;
 use clip::{CuttingPlane, Found};
 use rows::Refusal;
 use stitch::{Stitched, Strictness};
-use vector::{Plane, coord};
+use vector::{Plane, coord, scaled_normal};
 
 // What the vector is that a cut is given by: data of the definitions and theorems, so no closure stands for it.
 #[derive(Clone, Copy)]
@@ -25,11 +25,42 @@ pub enum Way {
     Direction,
 }
 
-// A cut as it is given: a point of it, and its normal or its direction.
+// How a normal is taken before it is made unit: as it is given, or scaled by a power of two, so that it may be of any length.
+#[derive(Clone, Copy)]
+pub enum Scaling {
+    AsGiven,
+    Scaled,
+}
+
+impl From<u8> for Scaling {
+    ghost from_gives = { λ scaled scaling. scaling ≡ scaling_of scaled };
+
+    fn from(scaled: u8) -> Self {
+        match scaled {
+            0 => Scaling::AsGiven,
+            _ => Scaling::Scaled,
+        }
+    }
+}
+
+impl Scaling {
+    // The normal as it is taken; none where it is to be scaled and a component is not finite.
+    pub fn take<const D: usize>(self, normal: [f64; D]) -> Option<[f64; D]>
+        ensures { result ≡ taken self normal.entry }
+    {
+        match self {
+            Scaling::AsGiven => Some(normal),
+            Scaling::Scaled => scaled_normal(normal),
+        }
+    }
+}
+
+// A cut as it is given: a point of it, its normal or its direction, and how a normal is taken. A direction is taken as it is given.
 #[derive(Clone, Copy)]
 pub struct Through<'a> {
     pub origin: &'a [f64],
     pub vector: &'a [f64],
+    pub scaling: Scaling,
 }
 
 impl Through<'_> {
@@ -38,7 +69,7 @@ impl Through<'_> {
         ensures { outcome_of result ≡ place_in way (through_of self.now) }
     {
         let (origin, vector) = self.rows::<3>()?;
-        plane_by(way, origin, vector).ok_or(Refusal::NoDirection)
+        plane_by(way, self.scaling, origin, vector).ok_or(Refusal::NoDirection)
     }
 
     // The point and the vector, if both have D coordinates, or refusal 5.
@@ -53,11 +84,11 @@ impl Through<'_> {
 }
 
 // The plane by its normal or by a line's direction.
-fn plane_by(way: Way, origin: [f64; 3], vector: [f64; 3]) -> Option<Plane>
-    ensures { result ≡ frame_by way origin vector }
+fn plane_by(way: Way, scaling: Scaling, origin: [f64; 3], vector: [f64; 3]) -> Option<Plane>
+    ensures { result ≡ frame_by way (through_by scaling origin vector) }
 {
     match way {
-        Way::Normal => Plane::new(origin, vector),
+        Way::Normal => Plane::new(origin, scaling.take(vector)?),
         Way::Direction => Plane::of_line(origin, vector),
     }
 }

@@ -2,7 +2,6 @@
 -- Definitions and statements only; the theorems are in proofs/Claims.antt, proofs/Stitching.antt and proofs/Alone.antt.
 use Rattle.std.specs.Prelude.{◌≡◌, List, [], ◌∷◌, ◌++◌, map, ℕ, ◌*◌, ◌/◌, ◌≤◌, leb, Float, length, get_or, take, Some}
 use Rattle.rows.specs.Outcome.{Outcome, found, and_then, unless, Sound}
-use Rattle.vector.specs.Vector.{plane_of}
 use Rattle.vector.specs.declared.Plane.{Plane}
 use Rattle.vector.specs.Rows.{Seg}
 use Rattle.cell.specs.Faces.{Face, separator}
@@ -12,7 +11,7 @@ use Rattle.clip.specs.Cell.{at_most}
 use Rattle.stitch.specs.Stitch.{stitched_by}
 use Rattle.stitch.specs.declared.Strictness.{Strictness}
 use Rattle.stitch.specs.Entry.{Buffers, Lengths, lengths, room, Told, Gave, answer_read, stitch_alone}
-use Rattle.cuts.specs.Cuts.{Through, cut_cell, place_in, segments_on}
+use Rattle.cuts.specs.Cuts.{Through, cut_cell, frame_by, place_in, segments_on}
 use Rattle.cuts.specs.Lines.{ToldLine, GaveLine, flat}
 use Rattle.cuts.specs.declared.Way.TheVariants.{Normal}
 use Rattle.plane_cut.specs.PlaneCut.{plane_cut}
@@ -32,7 +31,7 @@ pub record Gathered (k : Cell) (g : Through) (tol : Float) (ss : List Seg) : Typ
   pub polygons : List Polygon
   pub read_is : space_cell k ≡ found polygons
   pub frame : Plane
-  pub frame_is : plane_of g.origin g.vector ≡ Some frame
+  pub frame_is : frame_by Normal g ≡ Some frame
   pub segments_are : ss ≡ segments_on frame tol polygons
   pub bounded : length ss ≤ at_most (corners_of (space_cell k))
   pub few : length ss ≤ 384

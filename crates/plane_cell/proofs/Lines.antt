@@ -15,5 +15,5 @@ sound_with o tol None = (omega arith, omega arith)
 
 pub line_placed : (way : Way) (g : Through) (tol : Float) → Sound 1 7 (λ l. Unit {0}) (line_through way g tol)
 line_placed way g tol =
-    sound_placed 2 g (line_with g.origin tol (normal_by way g.vector)) (λ l. Unit {0})
-    (sound_with g.origin tol (normal_by way g.vector))
+    sound_placed 2 g (line_with g.origin tol (normal_by way g.scaling g.vector)) (λ l. Unit {0})
+    (sound_with g.origin tol (normal_by way g.scaling g.vector))

@@ -1,22 +1,24 @@
 -- The line cut of a cell in the plane, as an equation over every input: one cell of `slice_2d`, by normal, or by direction as `slice_line`
 -- does; and what docs/RULES.md says of it. Definitions and statements only; the theorems are in proofs/Claims.antt.
 use Rattle.std.specs.Prelude.{◌≡◌, List, [], ◌∷◌, ℕ, ◌*◌, ◌≤◌, leb, length, Float, Option, Some, None}
+use Rattle.std.specs.Option.{option_and_then}
 use Rattle.rows.specs.Outcome.{Outcome, refused, found, and_then, unless, Sound}
 use Rattle.vector.specs.Vector.{Vector, unit, normal_along}
 use Rattle.vector.specs.Rows.{Seg}
 use Rattle.cell.specs.Read.{Polygon, Cell, plane_cell}
 use Rattle.cell.specs.Claims.{SameInPlane}
 use Rattle.clip.specs.Clip.{Cut, plane_section_segments}
-use Rattle.cuts.specs.Cuts.{Through, cut_cell, placed_by}
+use Rattle.cuts.specs.Cuts.{Through, cut_cell, placed_by, taken}
+use Rattle.cuts.specs.declared.Scaling.{Scaling}
 use Rattle.cuts.specs.declared.Way as W
 use Rattle.cuts.specs.declared.Way.TheVariants as w
 
--- the unit normal of the line that a vector gives
-abbrev pub normal_by : W.Way → Vector → Option Vector
-normal_by w.Normal = unit
-normal_by w.Direction = normal_along
+-- the unit normal of the line that a vector gives: a normal in the way asked for, or a direction, which is never scaled
+abbrev pub normal_by : W.Way → Scaling → Vector → Option Vector
+normal_by w.Normal scaling v = option_and_then unit (taken scaling v)
+normal_by w.Direction scaling v = normal_along v
 
--- 6: a unit was taken of a vector whose norm is not greater than 0
+-- 6: a unit was taken of a vector whose norm is not greater than 0, or a component to be scaled is not finite
 abbrev pub normal_in : Option Vector → Outcome Vector
 normal_in None = refused 6
 normal_in (Some n) = found n
@@ -27,7 +29,7 @@ line_with o tol x = and_then (normal_in x) (λ u. found (record { origin = o; no
 
 -- 5 and 6 in the plane
 abbrev pub line_through : W.Way → Through → Float → Outcome Cut
-line_through way g tol = placed_by 2 g (line_with g.origin tol (normal_by way g.vector))
+line_through way g tol = placed_by 2 g (line_with g.origin tol (normal_by way g.scaling g.vector))
 
 -- the segments of the cell's one polygon
 abbrev pub polygon_segments : Cut → List Polygon → List Seg

@@ -17,7 +17,7 @@ use cell::Cell;
 use cell::accepted::PlaneCell;
 use clip::Found;
 use clip::polygon::{Cut, plane_section_segments};
-use cuts::{Through, Way};
+use cuts::{Scaling, Through, Way};
 use rows::Refusal;
 use vector::{normal_along, unit};
 
@@ -48,7 +48,7 @@ fn place(way: Way, through: &Through, tol: f64) -> Result<Cut<2>, Refusal>
     ensures { cutting result ≡ line_through way (through_of through.now) tol }
 {
     let (origin, vector) = through.rows::<2>()?;
-    let normal = normal_by(way, vector).ok_or(Refusal::NoDirection)?;
+    let normal = normal_by(way, through.scaling, vector).ok_or(Refusal::NoDirection)?;
     Ok(Cut {
         origin,
         normal,
@@ -57,11 +57,11 @@ fn place(way: Way, through: &Through, tol: f64) -> Result<Cut<2>, Refusal>
 }
 
 // The unit normal of a line by its normal or its direction. By `Way`, as a plane is, and for the same reason (crates/cuts).
-fn normal_by(way: Way, vector: [f64; 2]) -> Option<[f64; 2]>
-    ensures { result ≡ normal_by way vector }
+fn normal_by(way: Way, scaling: Scaling, vector: [f64; 2]) -> Option<[f64; 2]>
+    ensures { result ≡ normal_by way scaling vector }
 {
     match way {
-        Way::Normal => unit(vector),
+        Way::Normal => unit(scaling.take(vector)?),
         Way::Direction => normal_along(vector),
     }
 }

@@ -2,7 +2,6 @@
 -- proofs/Comparisons.antt.
 use Rattle.std.specs.Prelude.{◌≡◌, List, ℕ, ◌*◌, ◌/◌, ◌≤◌, length, Float, Some}
 use Rattle.rows.specs.Outcome.{Outcome, refused, found, unless, Sound, told_count}
-use Rattle.vector.specs.Vector.{plane_of}
 use Rattle.vector.specs.declared.Plane.{Plane}
 use Rattle.cell.specs.Read.{Polygon, Cell, space_cell}
 use Rattle.cell.specs.Claims.{SameInSpace}
@@ -10,7 +9,7 @@ use Rattle.stitch.specs.Stitch.{rule_of}
 use Rattle.stitch.specs.Claim.{ComparisonsOf}
 use Rattle.stitch.specs.Entry.{Lengths, room}
 use Rattle.stitch.specs.declared.Strictness.{Strictness}
-use Rattle.cuts.specs.Cuts.{Through, cut_cell, place_in, segments_on}
+use Rattle.cuts.specs.Cuts.{Through, cut_cell, frame_by, place_in, segments_on}
 use Rattle.cuts.specs.Comparisons.{comparisons_by}
 use Rattle.cuts.specs.declared.Way.TheVariants.{Normal}
 use Rattle.plane_cut.specs.PlaneCut.{plane_cut}
@@ -34,7 +33,7 @@ pub record PlaneComparisons (k : Cell) (g : Through) (tol : Float) (n : ℕ) : T
   pub polygons : List Polygon
   pub read_is : space_cell k ≡ found polygons
   pub frame : Plane
-  pub frame_is : plane_of g.origin g.vector ≡ Some frame
+  pub frame_is : frame_by Normal g ≡ Some frame
   pub few : length (segments_on frame tol polygons) ≤ 384
   pub compared : ComparisonsOf (rule_of tol).tol2 (segments_on frame tol polygons) n
 

@@ -2,7 +2,6 @@
 -- says of it. Definitions and statements only; the theorems are in proofs/Claims.antt.
 use Rattle.std.specs.Prelude.{◌≡◌, List, ℕ, ◌*◌, ◌/◌, ◌≤◌, Float, length, Some}
 use Rattle.rows.specs.Outcome.{Outcome, found, unless, Sound}
-use Rattle.vector.specs.Vector.{plane_of}
 use Rattle.vector.specs.declared.Plane.{Plane}
 use Rattle.cell.specs.Types.{shape_of, space_type}
 use Rattle.cell.specs.Read.{Polygon, Cell, space_cell}
@@ -14,7 +13,7 @@ use Rattle.stitch.specs.Stitch.{Answer, rule_by}
 use Rattle.stitch.specs.Claim.{Claim}
 use Rattle.stitch.specs.Entry.{Buffers, Lengths, lengths, room, Told, told, Gave, answer_read, Small}
 use Rattle.stitch.specs.declared.Strictness.{Strictness}
-use Rattle.cuts.specs.Cuts.{Through, cut_cell, place_in, section_by, segments_on}
+use Rattle.cuts.specs.Cuts.{Through, cut_cell, frame_by, place_in, section_by, segments_on}
 use Rattle.cuts.specs.declared.Way.TheVariants.{Normal}
 
 -- 7: buffers of these lengths hold the numbers, nodes and ends of a section of m face corners
@@ -56,7 +55,7 @@ pub record PlaneSection (k : Cell) (g : Through) (strictness : Strictness) (tol 
   pub polygons : List Polygon
   pub read_is : space_cell k ≡ found polygons
   pub frame : Plane
-  pub frame_is : plane_of g.origin g.vector ≡ Some frame
+  pub frame_is : frame_by Normal g ≡ Some frame
   pub few : length (segments_on frame tol polygons) ≤ 384
   pub claim : Claim (rule_by strictness tol) (segments_on frame tol polygons) a
 

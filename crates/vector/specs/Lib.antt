@@ -2,3 +2,4 @@ pub mod Number
 pub mod Vector
 pub mod Rows
 pub mod Tolerance
+pub mod Scaled

@@ -1,14 +1,15 @@
 // Numbers, points and vectors in the plane and in space, the cutting plane, rows of a flat slice, and the tolerance.
 #![tactic(auto)]
 
-ghost use Rattle.std.specs.Prelude.{◌≡◌, ◌+◌, ◌*◌, ◌<◌, ◌≤◌, length, map};
-ghost use Rattle.std.specs.Float.{binary64};
-ghost use Rattle.std.specs.Float.Ieee.{div};
+ghost use Rattle.std.specs.Prelude.{◌≡◌, true, ◌+◌, ◌*◌, ◌<◌, ◌≤◌, length, map};
+ghost use Rattle.std.specs.Float.{binary64, float_is_finite};
+ghost use Rattle.std.specs.Float.Ieee.{div, lt};
 ghost use Rattle.rows.specs.Refusals.{outcome_of};
-ghost use Rattle.vector.specs.Number.{abs};
+ghost use Rattle.vector.specs.Number.{abs, f0};
 ghost use Rattle.vector.specs.Vector.{IsEach, cross, deproject, diff, dist2, distance, dot, least_aligned_axis};
 ghost use Rattle.vector.specs.Vector.{line_of, normal_along, plane_basis, plane_of, plus, project, scale, unit};
 ghost use Rattle.vector.specs.Rows.{put, row};
+ghost use Rattle.vector.specs.Scaled.{finite, power_below, scaled_normal, units_in};
 ghost use Rattle.vector.specs.Tolerance.{column, extent, greater, lesser, magnitude, spread, tolerance, tolerance_of};
 
 use rows::Refusal;
@@ -92,6 +93,49 @@ pub fn unit<const D: usize>(v: [f64; D]) -> Option<[f64; D]>
         return Some(divided(v, n));
     }
     None
+}
+
+// A normal times the power of two that brings its greatest absolute component to at least 1 and under 2, each product rounded once; none
+// where a component is not finite. A zero vector is not scaled.
+pub fn scaled_normal<const D: usize>(v: [f64; D]) -> Option<[f64; D]>
+    ensures { result ≡ scaled_normal v.entry }
+{
+    if !is_finite(v) {
+        return None;
+    }
+    let greatest = magnitude(&v);
+    if greatest > 0.0 {
+        return Some(divided(v, power_below(greatest)));
+    }
+    Some(v)
+}
+
+// Whether no component is NaN or infinite.
+fn is_finite<const D: usize>(v: [f64; D]) -> bool
+    ensures { result ≡ finite v.entry }
+{
+    for k in 0..D {
+        if !v[k].is_finite() {
+            return false;
+        }
+    }
+    true
+}
+
+// The pattern of the smallest normal number: the exponents of patterns count in it.
+const NORMAL: u64 = 0x10_0000_0000_0000;
+
+// The greatest power of two that is not above x. Each is an f64, as the power that brings 2^-1074 to 1 is not: so x is divided, by a quotient
+// that is rounded once.
+fn power_below(x: f64) -> f64
+    requires { (lt f0 x ≡ true) × (float_is_finite x ≡ true) }
+    ensures { result ≡ power_below (units_in x) }
+{
+    let b = x.to_bits();
+    if b < NORMAL {
+        return f64::from_bits(1 << b.ilog2());
+    }
+    f64::from_bits(b - b % NORMAL)
 }
 
 // Each coordinate divided by n.
