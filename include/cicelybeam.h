@@ -60,7 +60,8 @@ extern "C" {
 #define CICELYBEAM_NO_SUCH_ROW 4      /* a corner's node number is no row of the coordinates */
 /* To be mended by who places the cut. */
 #define CICELYBEAM_WRONG_LENGTH 5 /* origin, normal or direction is not 3 numbers (2 in the plane) */
-#define CICELYBEAM_NO_DIRECTION 6 /* a vector's norm is not greater than 0, so it has no direction */
+#define CICELYBEAM_NO_DIRECTION 6 /* a vector's norm is not greater than 0, so it has no direction;
+                                   * or a component of a normal that is to be scaled is not finite */
 /* To be mended by who lends the buffers. */
 #define CICELYBEAM_SHORT_BUFFER 7 /* one of them is shorter than the sizes below */
 /* To be mended by who calls the stitching. */
@@ -163,28 +164,39 @@ struct cicelybeam_tolerance {
  * whole mesh in rows. tol is the distance up to which a point counts as on the plane, and two points
  * as one; usually the mesh's tolerance (below). Any number is taken; with less than the mesh's own, a
  * crossing that was rounded may not count as on the plane, and its edge is then not found. Vectors need
- * not be of length 1. */
+ * not be of length 1.
+ *
+ * scaled chooses how a normal is taken: 0 as it is given, anything else scaled. A normal as given is made unit
+ * by its squares, as mefikit does it. They overflow where a component is beyond about 1e154 in absolute value:
+ * the unit normal is then 0, and the section silently empty. They lose digits, or are all 0 and the normal is
+ * refused with 6, where all components are within about 1e-154. A scaled normal may be of any length: it is first
+ * multiplied by the power of two that brings its greatest absolute component to at least 1 and under 2, each
+ * component being the exact product rounded once. Its norm is then proved to be from 1 to 4, so it is not refused
+ * for its length. A normal of zeros is not scaled and is refused with 6, and so is one with a component that is
+ * NaN or infinite. Scale normals that were worked out, by a cross product or a division by a determinant; take
+ * them as given to have what mefikit has. Where no square overflows or underflows, both give the same. Directions
+ * are not scaled. */
 
-/* A space cell cut by the plane through origin with this normal, in the strict way unless strict is 0.
- * Points are given in the plane, from origin. Refuses 1 to 7. */
+/* A space cell cut by the plane through origin with this normal, scaled unless scaled is 0, in the strict way
+ * unless strict is 0. Points are given in the plane, from origin. Refuses 1 to 7. */
 struct cicelybeam_section cicelybeam_plane(uint8_t type, const uint64_t *conn, size_t conn_len,
                                            const double *coords, size_t coords_len,
                                            const double *origin, size_t origin_len,
-                                           const double *normal, size_t normal_len, uint8_t strict,
-                                           double tol, double *numbers, size_t numbers_len,
-                                           uint32_t *nodes, size_t nodes_len, uint32_t *ends,
-                                           size_t ends_len);
+                                           const double *normal, size_t normal_len, uint8_t scaled,
+                                           uint8_t strict, double tol, double *numbers,
+                                           size_t numbers_len, uint32_t *nodes, size_t nodes_len,
+                                           uint32_t *ends, size_t ends_len);
 
 /* The segments that cicelybeam_plane stitches, before they are stitched: those of each face, faces in their
  * order, in the plane, from origin; four numbers a segment, at most 3 * m / 2 segments. cicelybeam_stitch of
- * these numbers with the same strict and tol gives what cicelybeam_plane gives but for defaulted, which is
- * told here, where no call is refused. A face alone can be handed over as a PHED of one face; a cell's
+ * these numbers with the same tol gives what cicelybeam_plane gives with the same scaled and strict, but for
+ * defaulted, which is told here, where no call is refused. A face alone can be handed over as a PHED of one face; a cell's
  * segments are those of its faces, in their order, and its defaulted is their sum. Refuses 1 to 7. */
 struct cicelybeam_line cicelybeam_gather(uint8_t type, const uint64_t *conn, size_t conn_len,
                                          const double *coords, size_t coords_len,
                                          const double *origin, size_t origin_len,
-                                         const double *normal, size_t normal_len, double tol,
-                                         double *numbers, size_t numbers_len);
+                                         const double *normal, size_t normal_len, uint8_t scaled,
+                                         double tol, double *numbers, size_t numbers_len);
 
 /* A space cell cut by the line through origin with this direction: the cell is cut by a plane that holds
  * the line, in the usual way, and the line cuts the loops of that section. Flat and open pieces of the
@@ -197,13 +209,14 @@ struct cicelybeam_line cicelybeam_line_in_space(uint8_t type, const uint64_t *co
                                                 const double *direction, size_t direction_len,
                                                 double tol, double *numbers, size_t numbers_len);
 
-/* A plane cell cut by the line through origin with this normal. Refuses 1 to 7. */
+/* A plane cell cut by the line through origin with this normal, scaled unless scaled is 0. Refuses 1 to 7. */
 struct cicelybeam_line cicelybeam_plane_cell_by_normal(uint8_t type, const uint64_t *conn,
                                                        size_t conn_len, const double *coords,
                                                        size_t coords_len, const double *origin,
                                                        size_t origin_len, const double *normal,
-                                                       size_t normal_len, double tol,
-                                                       double *numbers, size_t numbers_len);
+                                                       size_t normal_len, uint8_t scaled,
+                                                       double tol, double *numbers,
+                                                       size_t numbers_len);
 
 /* A plane cell cut by the line through origin with this direction. Refuses 1 to 7. */
 struct cicelybeam_line cicelybeam_plane_cell_by_direction(uint8_t type, const uint64_t *conn,

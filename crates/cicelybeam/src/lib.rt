@@ -11,7 +11,7 @@ ghost use Rattle.vector.specs.Tolerance.{told_tolerance, tolerance_of};
 ghost use Rattle.cell.specs.Read.{cell};
 ghost use Rattle.stitch.specs.Entry.{Gave, Small, buffers, lengths, section_told, stitch_alone, strictness_of};
 ghost use Rattle.stitch.specs.Comparisons.{comparisons_told, stitch_comparisons, stitched_of};
-ghost use Rattle.cuts.specs.Cuts.{through};
+ghost use Rattle.cuts.specs.Cuts.{scaling_of, through, through_by};
 ghost use Rattle.cuts.specs.Comparisons.{section_comparisons};
 ghost use Rattle.cuts.specs.Defaulted.{line_count, section_count, stitched_in};
 ghost use Rattle.cuts.specs.Lines.{GaveLine, line_told};
@@ -29,7 +29,7 @@ ghost use Rattle.cicelybeam.specs.Exports.{told_in, told_line_in, told_tolerance
 
 use cell::Cell;
 use clip::Found;
-use cuts::{CellSection, Through, Way};
+use cuts::{CellSection, Scaling, Through, Way};
 use rows::Refusal;
 use stitch::{StitchedSegments, Strictness};
 
@@ -84,13 +84,14 @@ impl From<Result<f64, Refusal>> for Tolerance {
     }
 }
 
-// A space cell cut by a plane; in the strict way unless `strict` is 0.
+// A space cell cut by a plane: its normal scaled unless `scaled` is 0, and in the strict way unless `strict` is 0.
 pub fn cicelybeam_plane(
     cell_type: u8,
     conn: &[u64],
     coords: &[f64],
     origin: &[f64],
     normal: &[f64],
+    scaled: u8,
     strict: u8,
     tol: f64,
     numbers: &mut [f64],
@@ -98,15 +99,15 @@ pub fn cicelybeam_plane(
     ends: &mut [u32],
 ) -> Section
     ensures { Gave
-        (plane_cut (cell cell_type conn.now coords.now) (through origin.now normal.now) (strictness_of strict) tol
+        (plane_cut (cell cell_type conn.now coords.now) (through_by (scaling_of scaled) origin.now normal.now) (strictness_of strict) tol
         (lengths (buffers numbers.old nodes.old ends.old)))
         (told_in result) (buffers numbers.old nodes.old ends.old)
         (buffers numbers.new nodes.new ends.new)
         × (result.defaulted
-        ≡ told_count (plane_defaulted (cell cell_type conn.now coords.now) (through origin.now normal.now) tol
+        ≡ told_count (plane_defaulted (cell cell_type conn.now coords.now) (through_by (scaling_of scaled) origin.now normal.now) tol
         (lengths (buffers numbers.old nodes.old ends.old))))
         × (result.comparisons
-        ≡ told_count (plane_comparisons (cell cell_type conn.now coords.now) (through origin.now normal.now) tol
+        ≡ told_count (plane_comparisons (cell cell_type conn.now coords.now) (through_by (scaling_of scaled) origin.now normal.now) tol
         (lengths (buffers numbers.old nodes.old ends.old)))) }
 {
     let cell = Cell {
@@ -117,6 +118,7 @@ pub fn cicelybeam_plane(
     let through = Through {
         origin,
         vector: normal,
+        scaling: Scaling::from(scaled),
     };
     told_section(plane_cut::section_cell_by_plane(
         &cell,
@@ -129,22 +131,23 @@ pub fn cicelybeam_plane(
     ))
 }
 
-// The segments of a space cell on a plane, before they are stitched.
+// The segments of a space cell on a plane, before they are stitched; its normal scaled unless `scaled` is 0.
 pub fn cicelybeam_gather(
     cell_type: u8,
     conn: &[u64],
     coords: &[f64],
     origin: &[f64],
     normal: &[f64],
+    scaled: u8,
     tol: f64,
     numbers: &mut [f64],
 ) -> Line
     ensures { GaveLine
         (gather_cut (cell cell_type conn.now coords.now)
-        (through origin.now normal.now) tol (length numbers.old))
+        (through_by (scaling_of scaled) origin.now normal.now) tol (length numbers.old))
         (told_line_in result) numbers.old numbers.new
         × (result.defaulted
-        ≡ told_count (gather_defaulted (cell cell_type conn.now coords.now) (through origin.now normal.now) tol (length numbers.old))) }
+        ≡ told_count (gather_defaulted (cell cell_type conn.now coords.now) (through_by (scaling_of scaled) origin.now normal.now) tol (length numbers.old))) }
 {
     let cell = Cell {
         cell_type,
@@ -154,6 +157,7 @@ pub fn cicelybeam_gather(
     let through = Through {
         origin,
         vector: normal,
+        scaling: Scaling::from(scaled),
     };
     told_line(gather::gather_cell_by_plane(&cell, &through, tol, numbers))
 }
@@ -183,26 +187,28 @@ pub fn cicelybeam_line_in_space(
     let through = Through {
         origin,
         vector: direction,
+        scaling: Scaling::AsGiven,
     };
     told_line(line_cut::slice_line_3d(&cell, &through, tol, numbers))
 }
 
-// A plane cell cut by a line that its normal gives.
+// A plane cell cut by a line that its normal gives, scaled unless `scaled` is 0.
 pub fn cicelybeam_plane_cell_by_normal(
     cell_type: u8,
     conn: &[u64],
     coords: &[f64],
     origin: &[f64],
     normal: &[f64],
+    scaled: u8,
     tol: f64,
     numbers: &mut [f64],
 ) -> Line
     ensures { GaveLine
         (plane_cell_cut way.Normal (cell cell_type conn.now coords.now)
-        (through origin.now normal.now) tol (length numbers.old))
+        (through_by (scaling_of scaled) origin.now normal.now) tol (length numbers.old))
         (told_line_in result) numbers.old numbers.new
         × (result.defaulted
-        ≡ told_count (plane_cell_defaulted way.Normal (cell cell_type conn.now coords.now) (through origin.now normal.now) tol
+        ≡ told_count (plane_cell_defaulted way.Normal (cell cell_type conn.now coords.now) (through_by (scaling_of scaled) origin.now normal.now) tol
         (length numbers.old))) }
 {
     let cell = Cell {
@@ -213,6 +219,7 @@ pub fn cicelybeam_plane_cell_by_normal(
     let through = Through {
         origin,
         vector: normal,
+        scaling: Scaling::from(scaled),
     };
     told_line(plane_cell::slice_2d(Way::Normal, &cell, &through, tol, numbers))
 }
@@ -243,6 +250,7 @@ pub fn cicelybeam_plane_cell_by_direction(
     let through = Through {
         origin,
         vector: direction,
+        scaling: Scaling::AsGiven,
     };
     told_line(plane_cell::slice_2d(Way::Direction, &cell, &through, tol, numbers))
 }

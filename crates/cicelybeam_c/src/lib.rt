@@ -10,7 +10,7 @@ ghost use Rattle.vector.specs.Tolerance.{told_tolerance, tolerance_of};
 ghost use Rattle.cell.specs.Read.{cell};
 ghost use Rattle.stitch.specs.Entry.{Gave, buffers, lengths, stitch_alone, strictness_of};
 ghost use Rattle.stitch.specs.Comparisons.{stitch_comparisons};
-ghost use Rattle.cuts.specs.Cuts.{through};
+ghost use Rattle.cuts.specs.Cuts.{scaling_of, through, through_by};
 ghost use Rattle.cuts.specs.Lines.{GaveLine};
 ghost use Rattle.cuts.specs.declared.Way.TheVariants as way;
 ghost use Rattle.plane_cut.specs.PlaneCut.{plane_cut};
@@ -26,7 +26,7 @@ ghost use Rattle.cicelybeam.specs.Exports.{told_in, told_line_in, told_tolerance
 
 use cicelybeam::{Line, Section, Tolerance};
 
-// A space cell cut by a plane; in the strict way unless `strict` is 0.
+// A space cell cut by a plane: its normal scaled unless `scaled` is 0, and in the strict way unless `strict` is 0.
 #[unsafe(no_mangle)]
 pub extern "C" fn cicelybeam_plane(
     cell_type: u8,
@@ -34,6 +34,7 @@ pub extern "C" fn cicelybeam_plane(
     coords: &[f64],
     origin: &[f64],
     normal: &[f64],
+    scaled: u8,
     strict: u8,
     tol: f64,
     numbers: &mut [f64],
@@ -41,23 +42,23 @@ pub extern "C" fn cicelybeam_plane(
     ends: &mut [u32],
 ) -> Section
     ensures { Gave
-        (plane_cut (cell cell_type conn.now coords.now) (through origin.now normal.now) (strictness_of strict) tol
+        (plane_cut (cell cell_type conn.now coords.now) (through_by (scaling_of scaled) origin.now normal.now) (strictness_of strict) tol
         (lengths (buffers numbers.old nodes.old ends.old)))
         (told_in result) (buffers numbers.old nodes.old ends.old)
         (buffers numbers.new nodes.new ends.new)
         × (result.defaulted
-        ≡ told_count (plane_defaulted (cell cell_type conn.now coords.now) (through origin.now normal.now) tol
+        ≡ told_count (plane_defaulted (cell cell_type conn.now coords.now) (through_by (scaling_of scaled) origin.now normal.now) tol
         (lengths (buffers numbers.old nodes.old ends.old))))
         × (result.comparisons
-        ≡ told_count (plane_comparisons (cell cell_type conn.now coords.now) (through origin.now normal.now) tol
+        ≡ told_count (plane_comparisons (cell cell_type conn.now coords.now) (through_by (scaling_of scaled) origin.now normal.now) tol
         (lengths (buffers numbers.old nodes.old ends.old)))) }
 {
     cicelybeam::cicelybeam_plane(
-        cell_type, conn, coords, origin, normal, strict, tol, numbers, nodes, ends,
+        cell_type, conn, coords, origin, normal, scaled, strict, tol, numbers, nodes, ends,
     )
 }
 
-// The segments of a space cell on a plane, before they are stitched.
+// The segments of a space cell on a plane, before they are stitched; its normal scaled unless `scaled` is 0.
 #[unsafe(no_mangle)]
 pub extern "C" fn cicelybeam_gather(
     cell_type: u8,
@@ -65,17 +66,20 @@ pub extern "C" fn cicelybeam_gather(
     coords: &[f64],
     origin: &[f64],
     normal: &[f64],
+    scaled: u8,
     tol: f64,
     numbers: &mut [f64],
 ) -> Line
     ensures { GaveLine
         (gather_cut (cell cell_type conn.now coords.now)
-        (through origin.now normal.now) tol (length numbers.old))
+        (through_by (scaling_of scaled) origin.now normal.now) tol (length numbers.old))
         (told_line_in result) numbers.old numbers.new
         × (result.defaulted
-        ≡ told_count (gather_defaulted (cell cell_type conn.now coords.now) (through origin.now normal.now) tol (length numbers.old))) }
+        ≡ told_count (gather_defaulted (cell cell_type conn.now coords.now) (through_by (scaling_of scaled) origin.now normal.now) tol (length numbers.old))) }
 {
-    cicelybeam::cicelybeam_gather(cell_type, conn, coords, origin, normal, tol, numbers)
+    cicelybeam::cicelybeam_gather(
+        cell_type, conn, coords, origin, normal, scaled, tol, numbers,
+    )
 }
 
 // A space cell cut by a line.
@@ -99,7 +103,7 @@ pub extern "C" fn cicelybeam_line_in_space(
     cicelybeam::cicelybeam_line_in_space(cell_type, conn, coords, origin, direction, tol, numbers)
 }
 
-// A plane cell cut by a line that its normal gives.
+// A plane cell cut by a line that its normal gives, scaled unless `scaled` is 0.
 #[unsafe(no_mangle)]
 pub extern "C" fn cicelybeam_plane_cell_by_normal(
     cell_type: u8,
@@ -107,19 +111,20 @@ pub extern "C" fn cicelybeam_plane_cell_by_normal(
     coords: &[f64],
     origin: &[f64],
     normal: &[f64],
+    scaled: u8,
     tol: f64,
     numbers: &mut [f64],
 ) -> Line
     ensures { GaveLine
         (plane_cell_cut way.Normal (cell cell_type conn.now coords.now)
-        (through origin.now normal.now) tol (length numbers.old))
+        (through_by (scaling_of scaled) origin.now normal.now) tol (length numbers.old))
         (told_line_in result) numbers.old numbers.new
         × (result.defaulted
-        ≡ told_count (plane_cell_defaulted way.Normal (cell cell_type conn.now coords.now) (through origin.now normal.now) tol
+        ≡ told_count (plane_cell_defaulted way.Normal (cell cell_type conn.now coords.now) (through_by (scaling_of scaled) origin.now normal.now) tol
         (length numbers.old))) }
 {
     cicelybeam::cicelybeam_plane_cell_by_normal(
-        cell_type, conn, coords, origin, normal, tol, numbers,
+        cell_type, conn, coords, origin, normal, scaled, tol, numbers,
     )
 }
 

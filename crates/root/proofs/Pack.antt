@@ -20,7 +20,7 @@ sqrt_of_at f (inf s) a h = absurd h
 sqrt_of_at f (fin true m e) a h = absurd (true≢false h.0)
 sqrt_of_at f (fin false m e) a h = ap (root_of f) (units_of f (m * up e) (down e) a (down_pos e) h.1)
 
-to_bits_at : (f : Format) (v : Float) (a : ℕ) → HasValue v false a (2 ^ low f)
+pub to_bits_at : (f : Format) (v : Float) (a : ℕ) → HasValue v false a (2 ^ low f)
     → to_bits f v ≡ 0 + (size a - prec f) * hid f + a / 2 ^ (size a - prec f)
 unfolding to_bits
 to_bits_at f nan a h = absurd h

@@ -7,9 +7,10 @@ ghost use Rattle.std.specs.Prelude.{◌≡◌, [], ◌∷◌, ◌/◌, ◌<◌, 
 ghost use Rattle.vector.specs.Rows.{put, row};
 ghost use Rattle.vector.specs.Vector.{line_of, normal_along, plane_of, unit};
 ghost use Rattle.vector.specs.Tolerance.{tolerance};
+ghost use Rattle.vector.specs.Scaled.{scaled_normal};
 ghost use Rattle.stitch.specs.Code.{Stitchable};
 ghost use Rattle.stitch.specs.Entry.{strictness_of};
-ghost use Rattle.trial.specs.Trial.{ClipFits, Clips, FrameGiven, Refused, Stitching, Total, Unclipped, UnitGiven, Unstitched, deprojected, plane_in, projected, stitched_in};
+ghost use Rattle.trial.specs.Trial.{ClipFits, Clips, FrameGiven, Refused, Stitching, Total, Unclipped, Unstitched, VectorGiven, deprojected, plane_in, projected, stitched_in};
 
 use clip::polygon::{Cut, plane_section_segments};
 use stitch::{StitchedSegments, Strictness};
@@ -258,7 +259,7 @@ fn plane_in(rows: &[f64]) -> Plane
 // The unit normal of a line in the plane with this normal, written to out. Gives 1, or 0 if there is none.
 #[unsafe(no_mangle)]
 pub extern "C" fn trial_line_normal(x: f64, y: f64, out: &mut [f64]) -> usize
-    ensures { Total (2 ≤ length out.old) (UnitGiven (unit (x ∷ y ∷ [])) result out.old out.new)
+    ensures { Total (2 ≤ length out.old) (VectorGiven 2 (unit (x ∷ y ∷ [])) result out.old out.new)
         (Refused result out.old out.new) }
 {
     put_unit(vector::unit([x, y]), out)
@@ -267,7 +268,7 @@ pub extern "C" fn trial_line_normal(x: f64, y: f64, out: &mut [f64]) -> usize
 // The same for a line with this direction.
 #[unsafe(no_mangle)]
 pub extern "C" fn trial_line_normal_along(x: f64, y: f64, out: &mut [f64]) -> usize
-    ensures { Total (2 ≤ length out.old) (UnitGiven (normal_along (x ∷ y ∷ [])) result out.old out.new)
+    ensures { Total (2 ≤ length out.old) (VectorGiven 2 (normal_along (x ∷ y ∷ [])) result out.old out.new)
         (Refused result out.old out.new) }
 {
     put_unit(vector::normal_along([x, y]), out)
@@ -275,7 +276,7 @@ pub extern "C" fn trial_line_normal_along(x: f64, y: f64, out: &mut [f64]) -> us
 
 // Writes a unit vector. Gives 1, or 0 if there is none.
 fn put_unit(found: Option<[f64; 2]>, out: &mut [f64]) -> usize
-    ensures { Total (2 ≤ length out.old) (UnitGiven found result out.old out.new) (Refused result out.old out.new) }
+    ensures { Total (2 ≤ length out.old) (VectorGiven 2 found result out.old out.new) (Refused result out.old out.new) }
 {
     if out.len() < 2 {
         return REFUSED;
@@ -284,5 +285,37 @@ fn put_unit(found: Option<[f64; 2]>, out: &mut [f64]) -> usize
         return 0;
     };
     put(out, 0, a);
+    1
+}
+
+// A normal in space, scaled, written to out. Gives 1, or 0 if a component is not finite.
+#[unsafe(no_mangle)]
+pub extern "C" fn trial_scaled_in_space(normal: &[f64], out: &mut [f64]) -> usize
+    ensures { Total ((3 ≤ length normal.now) × (3 ≤ length out.old))
+        (VectorGiven 3 (scaled_normal (row 3 normal.now 0)) result out.old out.new) (Refused result out.old out.new) }
+{
+    if normal.len() < 3 || out.len() < 3 {
+        return REFUSED;
+    }
+    let Some(scaled) = vector::scaled_normal(coord::<3>(normal, 0)) else {
+        return 0;
+    };
+    put(out, 0, scaled);
+    1
+}
+
+// The same in the plane.
+#[unsafe(no_mangle)]
+pub extern "C" fn trial_scaled_in_plane(normal: &[f64], out: &mut [f64]) -> usize
+    ensures { Total ((2 ≤ length normal.now) × (2 ≤ length out.old))
+        (VectorGiven 2 (scaled_normal (row 2 normal.now 0)) result out.old out.new) (Refused result out.old out.new) }
+{
+    if normal.len() < 2 || out.len() < 2 {
+        return REFUSED;
+    }
+    let Some(scaled) = vector::scaled_normal(coord::<2>(normal, 0)) else {
+        return 0;
+    };
+    put(out, 0, scaled);
     1
 }

@@ -4,3 +4,4 @@ pub mod Units
 pub mod Coordinates
 pub mod Passes
 pub mod Extents
+pub mod Power

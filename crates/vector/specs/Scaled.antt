@@ -3,7 +3,7 @@
 use Rattle.std.specs.Prelude.{◌≡◌, ℕ, ◌*◌, ◌-◌, ◌/◌, ◌^◌, ◌≤◌, Bool, true, false, cond, ◌&&◌, [], ◌∷◌, length, T, ℤ, pos, Float, Option, Some, None}
 use Rattle.std.specs.Option.{option_and_then}
 use Rattle.std.specs.Float.{nan, inf, fin, binary64, float_is_finite}
-use Rattle.std.specs.Float.Ieee.{low, up, down, size, minus, mul, lt, le, fits}
+use Rattle.std.specs.Float.Ieee.{low, up, down, size, minus, lt, le, fits}
 use Rattle.std.specs.Float.Ieee.Exact.{HasValue}
 use Rattle.vector.specs.Number.{f0, f1}
 use Rattle.vector.specs.Tolerance.{magnitude}
