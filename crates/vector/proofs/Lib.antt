@@ -4,4 +4,11 @@ pub mod Units
 pub mod Coordinates
 pub mod Passes
 pub mod Extents
+pub mod Counts
+pub mod Rounding
+pub mod Greatest
+pub mod Scaling
+pub mod Multiples
+pub mod Norms
+pub mod ScaledNormals
 pub mod Power
