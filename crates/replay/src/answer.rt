@@ -51,6 +51,7 @@ impl TryFrom<u64> for Entry {
 #[derive(Clone, Copy)]
 pub struct Case<'a> {
     pub entry: Entry,
+    pub scaled: u8,
     pub strict: u8,
     pub cell_type: u8,
     pub tol: f64,
@@ -88,11 +89,13 @@ impl Case<'_> {
                 value: cicelybeam_sqrt(self.tol),
                 ..Answered::default()
             },
-            Entry::LineInSpace => self.line(cicelybeam_line_in_space, lent.numbers),
-            Entry::Gather => self.line(cicelybeam_gather, lent.numbers),
-            Entry::PlaneCellByNormal => { self.line(cicelybeam_plane_cell_by_normal, lent.numbers) }
+            Entry::LineInSpace => self.by_direction(cicelybeam_line_in_space, lent.numbers),
+            Entry::Gather => self.by_normal(cicelybeam_gather, lent.numbers),
+            Entry::PlaneCellByNormal => {
+                self.by_normal(cicelybeam_plane_cell_by_normal, lent.numbers)
+            }
             Entry::PlaneCellByDirection => {
-                self.line(cicelybeam_plane_cell_by_direction, lent.numbers)
+                self.by_direction(cicelybeam_plane_cell_by_direction, lent.numbers)
             }
         }
     }
@@ -104,6 +107,7 @@ impl Case<'_> {
             self.coords,
             self.origin,
             self.vector,
+            self.scaled,
             self.strict,
             self.tol,
             lent.numbers,
@@ -113,8 +117,27 @@ impl Case<'_> {
         .into()
     }
 
-    // What an entry tells that writes segments alone.
-    fn line<F>(&self, cut: F, numbers: &mut [f64]) -> Answered
+    // What an entry tells that writes segments alone, of a cut by its normal.
+    fn by_normal<F>(&self, cut: F, numbers: &mut [f64]) -> Answered
+    where
+        F: Fn(u8, &[u64], &[f64], &[f64], &[f64], u8, f64, &mut [f64]) -> Line,
+        requires { F.IsAlwaysCallable cut }
+    {
+        cut(
+            self.cell_type,
+            self.conn,
+            self.coords,
+            self.origin,
+            self.vector,
+            self.scaled,
+            self.tol,
+            numbers,
+        )
+        .into()
+    }
+
+    // And of a cut by its direction.
+    fn by_direction<F>(&self, cut: F, numbers: &mut [f64]) -> Answered
     where
         F: Fn(u8, &[u64], &[f64], &[f64], &[f64], f64, &mut [f64]) -> Line,
         requires { F.IsAlwaysCallable cut }

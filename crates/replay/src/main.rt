@@ -48,6 +48,7 @@ fn differing<R: Read>(input: &mut R, n: u64) -> usize
 // Whether the next record is answered as recorded. A number that names no entry stands for the plane cell by direction.
 fn answers<R: Read>(input: &mut R) -> bool {
     let entry = Entry::try_from(word::next(input)).unwrap_or(Entry::PlaneCellByDirection);
+    let scaled = (word::next(input) % 256) as u8;
     let strict = (word::next(input) % 256) as u8;
     let cell_type = (word::next(input) % 256) as u8;
     let number = |w| f64_from_bits_with_nan(w);
@@ -58,6 +59,7 @@ fn answers<R: Read>(input: &mut R) -> bool {
     let mut vector = [0.0f64; 8];
     let case = Case {
         entry,
+        scaled,
         strict,
         cell_type,
         tol,

@@ -1,8 +1,8 @@
 -- The starred cases of docs/RULES.md as one table: what is asked, and what is answered there. Definitions only; that the definitions of the
 -- crates answer so is `worked`, in proofs/Table.antt.
-use Rattle.std.specs.Prelude.{◌≡◌, true, false, cond, ℕ, ◌/◌, pos, negsuc, length, Float}
+use Rattle.std.specs.Prelude.{◌≡◌, true, false, cond, ℕ, ◌/◌, pos, negsuc, length, Float, Option, Some, None}
 use mathlib.Core.List.{List, [], ◌∷◌, ◌++◌, flatten, map}
-use Rattle.std.specs.Float.{nan, inf, fin, binary64}
+use Rattle.std.specs.Float.{nan, inf, fin, binary64, float_is_finite}
 use Rattle.std.specs.Float.Ieee.{mul}
 use Rattle.root.specs.Root.{sqrt_of}
 use Rattle.vector.specs.Number.{f0, f1, minus_one, half, least}
@@ -10,6 +10,7 @@ use Rattle.vector.specs.Vector.{Vector, at, dot_from, least_aligned_axis, unit}
 use Rattle.vector.specs.Rows.{Seg, seg, segs}
 use Rattle.rows.specs.Outcome.{Outcome, refused, found, told_count}
 use Rattle.vector.specs.Tolerance.{tolerance, tolerance_of}
+use Rattle.vector.specs.Scaled.{scaled_normal, units_in}
 use Rattle.cell.specs.Types.{space_type}
 use Rattle.cell.specs.Faces.{Face, faces_of, kept, separator, stretches}
 use Rattle.cell.specs.Read.{Cell, are_rows, cell, numbered_in_space, read_as}
@@ -22,9 +23,10 @@ use Rattle.walk.specs.Walk.{Walk, walks, walks_from}
 use Rattle.stitch.specs.Stitch.{Answer, area2_from, f2, repeated, signed_area, stitched_within}
 use Rattle.stitch.specs.declared.Strictness.{Strictness}
 use Rattle.stitch.specs.declared.Strictness.TheVariants.{Usual, Strict}
-use Rattle.stitch.specs.Entry.{stitch_alone}
+use Rattle.stitch.specs.Entry.{Lengths, stitch_alone}
 use Rattle.stitch.specs.Comparisons.{stitch_comparisons}
-use Rattle.cuts.specs.Cuts.{through}
+use Rattle.cuts.specs.Cuts.{through, through_by}
+use Rattle.cuts.specs.declared.Scaling.TheVariants.{Scaled}
 use Rattle.plane_cut.specs.PlaneCut.{plane_cut}
 use Rattle.plane_cut.specs.Comparisons.{plane_comparisons}
 use Rattle.gather.specs.Gather.{face_alone, gather_cut}
@@ -36,6 +38,10 @@ pub data Asked : Type 0 where
   faces : List ℕ → Asked
   -- the plane cut with tolerance 0 of a cell of a type, by its connectivity and coordinates, by a plane's origin and normal
   plane : ℕ → List ℕ → List Float → List Float → List Float → Asked
+  -- the same by a scaled normal
+  plane_scaled : ℕ → List ℕ → List Float → List Float → List Float → Asked
+  -- a normal scaled
+  scale : List Float → Asked
   -- gathering of the same, and of each face handed over alone
   gather : ℕ → List ℕ → List Float → List Float → List Float → Asked
   -- the crossings by default of the triangle (0, a) (1, a) (2, b) on the line y = 0, with a tolerance
@@ -67,10 +73,18 @@ pub data Answered : Type 0 where
   -- a section, and all walks
   stitched : Outcome Answer → List Shown → Answered
   number : Outcome Float → Answered
+  vector : Option Vector → Answered
 
 abbrev pub areas : Outcome Answer → List Float
 areas (refused k) = []
 areas (found a) = map (signed_area a.points) a.loops
+
+abbrev pub with_areas : Outcome Answer → Answered
+with_areas r = sectioned r (areas r)
+
+-- buffers for 24 face corners
+abbrev pub in_24 : Lengths
+in_24 = record { numbers = 144; nodes = 36; ends = 12 }
 
 -- a walk over welded points
 abbrev pub shown : List Vector → Walk → Shown
@@ -86,11 +100,11 @@ all_shown xs tol =
 -- by the definitions, in the usual way or the strict one, in buffers of the sizes that docs/RULES.md gives for 24 face corners, or for the
 -- segments; the way counts for plane cuts and stitching alone
 unfoldable pub answered : Strictness → Asked → Answered
-unfolding flatten stretches kept space_type read_as are_rows least_aligned_axis unit dot_from tolerance plane_section_segments defaulted mul stitched_within points_from becomes edges_from comparisons_from walks_from area2_from repeated
+unfolding flatten stretches kept space_type read_as are_rows least_aligned_axis unit units_in float_is_finite dot_from tolerance plane_section_segments defaulted mul stitched_within points_from becomes edges_from comparisons_from walks_from area2_from repeated
 answered strictness (faces c) = positions (faces_of Phed c)
-answered strictness (plane t c xs o n) =
-    let r = plane_cut (cell t c xs) (through o n) strictness f0 (record { numbers = 144; nodes = 36; ends = 12 }) in
-    sectioned r (areas r)
+answered strictness (plane t c xs o n) = with_areas (plane_cut (cell t c xs) (through o n) strictness f0 in_24)
+answered strictness (plane_scaled t c xs o n) = with_areas (plane_cut (cell t c xs) (through_by Scaled o n) strictness f0 in_24)
+answered strictness (scale n) = vector (scaled_normal n)
 answered strictness (gather t c xs o n) =
     let k = cell t c xs in
     let gathered : Cell → Outcome (List Seg) = λ k. gather_cut k (through o n) f0 144 in
@@ -105,7 +119,7 @@ answered strictness (compare xs tol) =
     let s = length xs / 4 in
     counted (told_count (stitch_comparisons xs tol (record { numbers = length xs; nodes = s; ends = s / 3 })))
 answered strictness (compare_plane t c xs o n) =
-    counted (told_count (plane_comparisons (cell t c xs) (through o n) f0 (record { numbers = 144; nodes = 36; ends = 12 })))
+    counted (told_count (plane_comparisons (cell t c xs) (through o n) f0 in_24))
 answered strictness (tolerance_in xs) = number (tolerance_of 3 xs)
 answered strictness (root x) = number (found (sqrt_of binary64 x))
 
@@ -170,6 +184,13 @@ tiny = fin false 1 (negsuc 1073)
 abbrev minus_tiny : Float
 minus_tiny = fin true 1 (negsuc 1073)
 
+abbrev minus_half : Float
+minus_half = fin true 1 (negsuc 0)
+
+-- the greatest power of two
+abbrev huge : Float
+huge = fin false 1 (pos 1023)
+
 -- the brick: HEX8 on the unit cube
 abbrev brick : List ℕ
 brick = 0 ∷ 1 ∷ 2 ∷ 3 ∷ 4 ∷ 5 ∷ 6 ∷ 7 ∷ []
@@ -189,6 +210,10 @@ level c = f0 ∷ f0 ∷ c ∷ []
 
 abbrev up : List Float
 up = f0 ∷ f0 ∷ f1 ∷ []
+
+-- along z with this length
+abbrev upright : Float → List Float
+upright l = f0 ∷ f0 ∷ l ∷ []
 
 -- the segments from each point of a list to the next, in numbers
 abbrev along : List Vector → List Float
@@ -223,13 +248,16 @@ tie_walks = closed (0 ∷ 1 ∷ 3 ∷ 2 ∷ 1 ∷ 4 ∷ []) (fin true 3 (pos 1))
 abbrev sides : List Seg
 sides = seg O (pt f1 f0) ∷ seg (pt f1 f1) (pt f0 f1) ∷ seg (pt f1 f0) (pt f1 f1) ∷ seg (pt f0 f1) O ∷ []
 
+-- and the square as a section
+abbrev square : Answered
+square = sectioned (answer (O ∷ pt f1 f0 ∷ pt f1 f1 ∷ pt f0 f1 ∷ []) ((0 ∷ 1 ∷ 2 ∷ 3 ∷ []) ∷ []) 4 4 0 0) (f1 ∷ [])
+
 abbrev pub table : List Case
 table =
     -- 1
     case (faces (0 ∷ 1 ∷ 2 ∷ separator ∷ 3 ∷ 4 ∷ separator ∷ 5 ∷ 6 ∷ 7 ∷ [])) (positions ((0 ∷ 1 ∷ 2 ∷ []) ∷ (7 ∷ 8 ∷ 9 ∷ []) ∷ []))
     -- 2
-    ∷ case (plane 14 brick cube (level half) up)
-    (sectioned (answer (O ∷ pt f1 f0 ∷ pt f1 f1 ∷ pt f0 f1 ∷ []) ((0 ∷ 1 ∷ 2 ∷ 3 ∷ []) ∷ []) 4 4 0 0) (f1 ∷ []))
+    ∷ case (plane 14 brick cube (level half) up) square
     -- 4
     ∷ case (plane 12 (0 ∷ 1 ∷ 2 ∷ 3 ∷ []) corner (level f1) up) (sectioned (answer [] [] 0 0 0 0) [])
     ∷ case (plane 12 (0 ∷ 1 ∷ 2 ∷ 3 ∷ []) corner (level quarter) up)
@@ -279,6 +307,18 @@ table =
     ∷ case_by_way (stitch (along tie_with_area ++ along triangle_apart) f0)
     (stitched (answer tie_points ((4 ∷ 1 ∷ 2 ∷ 3 ∷ 1 ∷ 0 ∷ []) ∷ (5 ∷ 6 ∷ 7 ∷ []) ∷ []) 9 9 0 0) tie_walks)
     (stitched (answer_with tie_points ((5 ∷ 6 ∷ 7 ∷ []) ∷ []) 9 3 6 0 0) tie_walks)
+    -- 19
+    ∷ case (plane 14 brick cube (level half) (upright huge)) (sectioned (answer [] [] 0 0 0 0) [])
+    ∷ case (plane 14 brick cube (level half) (upright tiny)) (sectioned (refused 6) [])
+    ∷ case (plane_scaled 14 brick cube (level half) (upright huge)) square
+    ∷ case (plane_scaled 14 brick cube (level half) (upright tiny)) square
+    ∷ case (plane_scaled 14 brick cube (level half) (upright f0)) (sectioned (refused 6) [])
+    ∷ case (plane_scaled 14 brick cube (level half) (upright (inf false))) (sectioned (refused 6) [])
+    ∷ case (scale (inf false ∷ f0 ∷ [])) (vector None)
+    ∷ case (scale (f0 ∷ f0 ∷ [])) (vector (Some (f0 ∷ f0 ∷ [])))
+    ∷ case (scale (fin false 3 (negsuc 1073) ∷ minus_tiny ∷ [])) (vector (Some (fin false 3 (negsuc 0) ∷ minus_half ∷ [])))
+    ∷ case (scale (huge ∷ fin false 11 (negsuc 53) ∷ [])) (vector (Some (f1 ∷ tiny ∷ [])))
+    ∷ case (scale (huge ∷ fin false 3 (negsuc 51) ∷ [])) (vector (Some (f1 ∷ fin false 1 (negsuc 1072) ∷ [])))
     ∷ []
 
 -- the definitions answer each case as docs/RULES.md does, in the usual way and in the strict one
