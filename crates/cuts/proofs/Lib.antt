@@ -1,4 +1,5 @@
 pub mod Placed
+pub mod Scaled
 pub mod Sizes
 pub mod Copying
 pub mod Cutting

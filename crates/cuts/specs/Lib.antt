@@ -1,4 +1,5 @@
 pub mod Cuts
+pub mod Scaled
 pub mod Lines
 pub mod Defaulted
 pub mod Comparisons

@@ -5,11 +5,14 @@ use Rattle.std.specs.Option.{option_and_then}
 use Rattle.rows.specs.Outcome.{Outcome, refused, found, and_then, unless, Sound}
 use Rattle.vector.specs.Vector.{Vector, unit, normal_along}
 use Rattle.vector.specs.Rows.{Seg}
+use Rattle.vector.specs.Scaled.{Held}
 use Rattle.cell.specs.Read.{Polygon, Cell, plane_cell}
 use Rattle.cell.specs.Claims.{SameInPlane}
 use Rattle.clip.specs.Clip.{Cut, plane_section_segments}
-use Rattle.cuts.specs.Cuts.{Through, cut_cell, placed_by, taken}
+use Rattle.cuts.specs.Cuts.{Through, cut_cell, placed_by, taken, through_by}
+use Rattle.cuts.specs.Scaled.{FoundIf, has_direction}
 use Rattle.cuts.specs.declared.Scaling.{Scaling}
+use Rattle.cuts.specs.declared.Scaling.TheVariants.{Scaled}
 use Rattle.cuts.specs.declared.Way as W
 use Rattle.cuts.specs.declared.Way.TheVariants as w
 
@@ -30,6 +33,12 @@ line_with o tol x = and_then (normal_in x) (λ u. found (record { origin = o; no
 -- 5 and 6 in the plane
 abbrev pub line_through : W.Way → Through → Float → Outcome Cut
 line_through way g tol = placed_by 2 g (line_with g.origin tol (normal_by way g.scaling g.vector))
+
+-- In the scaled way a line is refused with 6 only for a normal of zeros or with a component that is not finite: never for its length.
+abbrev pub ScaledPlaced : Type 0
+ScaledPlaced =
+    (o v : List Float) (tol : Float) → length o ≡ 2 → length v ≡ 2 → Held v
+    → FoundIf (has_direction v) (line_through w.Normal (through_by Scaled o v) tol)
 
 -- the segments of the cell's one polygon
 abbrev pub polygon_segments : Cut → List Polygon → List Seg

@@ -10,5 +10,6 @@ pub mod Greatest
 pub mod Scaling
 pub mod Multiples
 pub mod Norms
+pub mod Zeros
 pub mod ScaledNormals
 pub mod Power

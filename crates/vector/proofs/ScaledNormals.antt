@@ -1,6 +1,6 @@
 -- What specs/Scaled.antt states of scaled vectors: their greatest component and their norm are in range, so a unit is found; one that is in
 -- range is not changed; and a power of two times it is scaled alike. Assumes nothing.
-use Rattle.std.proofs.Common.{◌≡◌, ℕ, suc, ◌+◌, ◌-◌, ◌*◌, ◌^◌, ◌<◌, ◌≤◌, Bool, true, false, cond, T, [], ◌∷◌, map, length, Some, None, inr, sym, refl, ap, ◌∙◌, subst, le_trans, le_of_eq, lt_of_lt_of_le, lt_of_le_of_lt, lt_of_not-le, not-le_of_lt, lt_of_mul-lt-mul_right, arith, zero-le, mul-le-mul_right, mul-lt-mul_of_pos_right, mul-pos, ℤ, ltb→lt, lt-ltb, pow_mono}
+use Rattle.std.proofs.Common.{◌≡◌, ℕ, suc, ◌+◌, ◌-◌, ◌*◌, ◌^◌, ◌<◌, ◌≤◌, Bool, true, false, cond, T, [], ◌∷◌, map, length, Some, None, ◌⊎◌, inl, inr, true≢false, sym, refl, ap, ◌∙◌, subst, le_trans, le_of_eq, lt_of_lt_of_le, lt_of_le_of_lt, lt_of_not-le, not-le_of_lt, lt_of_mul-lt-mul_right, arith, zero-le, mul-le-mul_right, mul-lt-mul_of_pos_right, mul-pos, ℤ, ltb→lt, lt-ltb, pow_mono}
 use lib.Ieee.{Float, nan, inf, fin, Format, binary64, low, down, size, minus, mul, div, lt, le, fits}
 use lib.Ieee.Digits.{size-lt, size_reaches}
 use lib.Ieee.Bits.{is_true}
@@ -15,15 +15,17 @@ use Rattle.std.specs.Option.{option_and_then}
 use native.Mathlib.Nat.{pow-succ'}
 use Rattle.root.specs.Root.{sqrt_of}
 use Rattle.root.proofs.Floor.{size_is}
+use Rattle.std.proofs.lemmas.Bool.{cases_lt}
 use Rattle.std.proofs.lemmas.List.{length-map}
 use Rattle.vector.specs.Number.{f0, f1}
 use Rattle.vector.specs.Tolerance.{magnitude}
 use Rattle.vector.specs.Vector.{dot, norm, scale, unit, Vector}
-use Rattle.vector.specs.Scaled.{EachTimesPower, finite, four, GreatestInRange, Held, InRange, InRangeUnchanged, NormInRange, power, PowerScaledAlike, Scalable, scaled, two, UnitFound, units_in}
+use Rattle.vector.specs.Scaled.{EachTimesPower, finite, four, GreatestInRange, Held, InRange, InRangeUnchanged, NormInRange, power, PowerScaledAlike, Scalable, scaled, two, UnitFound, units_in, ZeroNotFound}
+use Rattle.vector.proofs.Zeros.{zero_dot}
 use Rattle.vector.proofs.Counts.{count, count_at, counted, one, one_pos, values_le}
 use Rattle.vector.proofs.Greatest.{AllCounted, AllFit, magnitude_fits, magnitude_value, most}
 use Rattle.vector.proofs.Norms.{dot_is, root_between, squares_from, squares_reach, sum_of_squares, SumOf}
-use Rattle.vector.proofs.Units.{unit_along}
+use Rattle.vector.proofs.Units.{unit_along, unit_nowhere}
 use Rattle.vector.proofs.Multiples.{most_multiple, multiples_alike, multiples_finite, multiples_held, places}
 use Rattle.vector.proofs.Scaling.{all_times, all_times_one, Leading, power_for, some_times, top_at_least_one, top_under_two}
 
@@ -171,6 +173,26 @@ unit_found a h l =
       ap (λ (t : Bool). option_and_then unit (cond t (Some b) None)) h.is_finite
           ∙ sym (unit_along b (dot b b) n refl refl above),
     )
+
+-- ---- of zeros no unit is found
+zero_below : lt f0 (sqrt_of binary64 f0) ≡ false
+unfolding lt sqrt_of
+zero_below = refl
+
+pub zero_not_found : ZeroNotFound
+zero_not_found a h f z =
+    let c = all_counted a h f in
+    let none : most binary64 a ≡ 0 = nothing (cases_lt 0 (most binary64 a)) in
+    let e : dot a a ≡ f0 = zero_dot a (all_fit a h) c none in
+    ap (λ (t : Bool). option_and_then unit (cond t (Some (scaled a)) None)) f
+    ∙ ap (λ (t : Bool). unit (cond t (scale (power (units_in (magnitude a))) a) a)) z
+    ∙ sym (unit_nowhere a f0 (sqrt_of binary64 f0) (sym e) refl zero_below)
+  where
+    nothing : (0 < most binary64 a) ⊎ (most binary64 a ≤ 0) → most binary64 a ≡ 0
+    nothing (inr g) = omega arith
+    nothing (inl g) =
+        absurd
+        (true≢false (sym (count_above_zero binary64 (magnitude a) (most binary64 a) (magnitude_value binary64 a (all_counted a h f)) g) ∙ z))
 
 -- ---- one that is in range already
 in_range_count : (f : Format) (x : Float) (n : ℕ) → HasValue x false n (one f) → InRange x → size n ≡ suc (low f)

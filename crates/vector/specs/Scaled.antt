@@ -75,6 +75,11 @@ NormInRange = (a : Vector) → Scalable a → length a ≤ 3 → (le f1 (norm (s
 abbrev pub UnitFound : Type 0
 UnitFound = (a : Vector) → Scalable a → length a ≤ 3 → (u : Vector) × (option_and_then unit (scaled_normal a) ≡ Some u)
 
+-- no unit is found of a vector of zeros
+abbrev pub ZeroNotFound : Type 0
+ZeroNotFound =
+    (a : Vector) → Held a → finite a ≡ true → lt f0 (magnitude a) ≡ false → option_and_then unit (scaled_normal a) ≡ None
+
 -- a vector that is in range is not changed
 abbrev pub InRangeUnchanged : Type 0
 InRangeUnchanged = (a : Vector) → Scalable a → InRange (magnitude a) → scaled a ≡ a
