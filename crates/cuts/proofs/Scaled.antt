@@ -5,10 +5,13 @@ use Rattle.std.specs.Option.{option_and_then}
 use Rattle.std.specs.Float.Ieee.{lt}
 use Rattle.vector.specs.Number.{f0}
 use Rattle.vector.specs.Tolerance.{magnitude}
-use Rattle.vector.specs.Vector.{Vector, unit}
+use Rattle.vector.specs.Vector.{Vector, plane_of, unit, with_normal}
 use Rattle.vector.specs.Scaled.{finite, Held, scaled, scaled_normal}
+use Rattle.vector.specs.declared.Plane.{Plane}
 use Rattle.vector.proofs.ScaledNormals.{unit_found, zero_not_found}
-use Rattle.cuts.specs.Scaled.{has_direction}
+use Rattle.vector.proofs.ScaledPlanes.{plane_found}
+use Rattle.cuts.specs.Cuts.{frame_in}
+use Rattle.cuts.specs.Scaled.{FoundIf, has_direction, ScaledPlaced}
 
 -- some or none
 abbrev pub SomeIf : {A : Type 0} → Bool → Option A → Type 0
@@ -22,3 +25,23 @@ unit_if v h l = go (finite v) (lt f0 (magnitude v)) refl refl
     go true true e g = unit_found v (record { held = h; is_finite = e; above_zero = g }) l
     go true false e g = zero_not_found v h e g
     go false b e g = ap (λ (t : Bool). option_and_then unit (cond t (Some (scaled v)) None)) e
+
+-- a plane of no unit normal is none
+plane_by_unit : (o : Vector) (x : Option Vector) → option_and_then unit x ≡ None → option_and_then (plane_of o) x ≡ None
+plane_by_unit o None e = refl
+plane_by_unit o (Some n) e = ap (with_normal o) e
+
+pub plane_if : (o v : Vector) → Held v → length v ≡ 3 → SomeIf (has_direction v) (option_and_then (plane_of o) (scaled_normal v))
+plane_if o v h l = go (finite v) (lt f0 (magnitude v)) refl refl
+  where
+    go : (f b : Bool) → finite v ≡ f → lt f0 (magnitude v) ≡ b → SomeIf (f && b) (option_and_then (plane_of o) (scaled_normal v))
+    go true true e g = plane_found o v (record { held = h; is_finite = e; above_zero = g }) l
+    go true false e g = plane_by_unit o (scaled_normal v) (zero_not_found v h e g)
+    go false b e g = ap (λ (t : Bool). option_and_then (plane_of o) (cond t (Some (scaled v)) None)) e
+
+pub scaled_placed : ScaledPlaced
+scaled_placed o v p q h = rw (p, q) (by_plane (has_direction v) (option_and_then (plane_of o) (scaled_normal v)) (plane_if o v h q))
+  where
+    by_plane : (t : Bool) (x : Option Plane) → SomeIf t x → FoundIf t (frame_in x)
+    by_plane true x (f, e) = rw e (f, refl)
+    by_plane false x e = rw e refl

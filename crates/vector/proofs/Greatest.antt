@@ -36,16 +36,16 @@ module _ (f : Format) (g : Float) (k : ℕ) (h : HasValue g false k (one f)) whe
       rw (u, m) h
 
 -- ---- the absolute value
-plus_not_below : (m : ℕ) (e : ℤ) → lt (fin false m e) f0 ≡ false
+pub plus_not_below : (m : ℕ) (e : ℤ) → lt (fin false m e) f0 ≡ false
 unfolding lt
 plus_not_below m e = rw (zero-mul (down e)) (le-ltb (m * up e * 1) 0 (omega arith))
 
-minus_below : (m : ℕ) (e : ℤ) → lt (fin true (suc m) e) f0 ≡ true
+pub minus_below : (m : ℕ) (e : ℤ) → lt (fin true (suc m) e) f0 ≡ true
 unfolding lt
 minus_below m e =
     rw (zero-mul (down e)) (lt-ltb 0 (suc m * up e * 1 + 0) (omega (arith, up_pos e, mul-le-mul_left (suc m) (up_pos e))))
 
-minus_zero_not_below : (e : ℤ) → lt (fin true 0 e) f0 ≡ false
+pub minus_zero_not_below : (e : ℤ) → lt (fin true 0 e) f0 ≡ false
 unfolding lt
 minus_zero_not_below e = rw (zero-mul (down e), zero-mul (up e)) refl
 

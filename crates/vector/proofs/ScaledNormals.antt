@@ -61,7 +61,7 @@ above_zero_count f x n v h =
     (ltb→lt (0 * one f) (n * one f)
     (T_from_true _ (sym (lt_at f0 x 0 (one f) n (one f) (one_pos f) (one_pos f) (refl, omega arith) v) ∙ h)))
 
-count_above_zero : (f : Format) (x : Float) (n : ℕ) → HasValue x false n (one f) → 0 < n → lt f0 x ≡ true
+pub count_above_zero : (f : Format) (x : Float) (n : ℕ) → HasValue x false n (one f) → 0 < n → lt f0 x ≡ true
 count_above_zero f x n v h =
     lt_at f0 x 0 (one f) n (one f) (one_pos f) (one_pos f) (refl, omega arith) v
     ∙ lt-ltb (0 * one f) (n * one f) (mul-lt-mul_of_pos_right h (one_pos f))
@@ -86,7 +86,7 @@ module _ (a : Vector) (h : Scalable a) where
   some : 0 < most binary64 a
   some = above_zero_count binary64 (magnitude a) (most binary64 a) magnitude_is h.above_zero
 
-  abbrev place : ℕ
+  abbrev pub place : ℕ
   place = size (most binary64 a) - 1
 
   has_place : size (most binary64 a) ≡ suc place
@@ -101,16 +101,16 @@ module _ (a : Vector) (h : Scalable a) where
         less = subst (λ (z : ℕ). most binary64 a < 2 ^ z) has_place (size-lt (most binary64 a));
       }
 
-  abbrev by_power : Vector
+  abbrev pub by_power : Vector
   by_power = map (mul binary64 (power_for binary64 (suc place))) a
 
-  scaled_is : scaled a ≡ by_power
+  pub scaled_is : scaled a ≡ by_power
   scaled_is =
       ap (λ (b : Bool). cond b (scale (power (units_in (magnitude a))) a) a) h.above_zero
       ∙ ap (λ (n : ℕ). scale (fin false 1 (minus 1075 n)) a)
       (ap size (units_are (magnitude a) ∙ count_at binary64 (magnitude a) false (most binary64 a) magnitude_is) ∙ has_place)
 
-  scaled_counts : AllCounted binary64 by_power
+  pub scaled_counts : AllCounted binary64 by_power
   scaled_counts = (all_times binary64 (magnitude a) (most binary64 a) place leading a counts (omega arith)).0
 
   scaled_at_least_one : one binary64 ≤ most binary64 by_power
@@ -118,7 +118,7 @@ module _ (a : Vector) (h : Scalable a) where
       le_trans (top_at_least_one binary64 (magnitude a) (most binary64 a) place leading)
       (some_times binary64 (magnitude a) (most binary64 a) place leading a counts refl)
 
-  scaled_under_two : most binary64 by_power < 2 * one binary64
+  pub scaled_under_two : most binary64 by_power < 2 * one binary64
   scaled_under_two =
       lt_of_le_of_lt (all_times binary64 (magnitude a) (most binary64 a) place leading a counts (omega arith)).1
       (top_under_two binary64 (magnitude a) (most binary64 a) place leading)
@@ -160,7 +160,7 @@ pub norm_in_range : NormInRange
 norm_in_range a h l = let r = scaled_norm a h l in (is_true _ r.0, is_true _ r.1)
 
 -- ---- its unit
-zero_below_one : T (lt f0 f1)
+pub zero_below_one : T (lt f0 f1)
 unfolding lt
 zero_below_one = tt
 

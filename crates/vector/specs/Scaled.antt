@@ -1,5 +1,5 @@
 -- A normal of any length, multiplied by a power of two before it is made unit, over the width; and what docs/RULES.md says of it.
--- Definitions and statements only; the theorems are in proofs/ScaledNormals.antt.
+-- Definitions and statements only; the theorems are in proofs/ScaledNormals.antt, and on planes in proofs/ScaledPlanes.antt.
 use Rattle.std.specs.Prelude.{◌≡◌, ℕ, ◌*◌, ◌-◌, ◌/◌, ◌^◌, ◌≤◌, Bool, true, false, cond, ◌&&◌, [], ◌∷◌, length, T, ℤ, pos, Float, Option, Some, None}
 use Rattle.std.specs.Option.{option_and_then}
 use Rattle.std.specs.Float.{nan, inf, fin, binary64, float_is_finite}
@@ -7,7 +7,8 @@ use Rattle.std.specs.Float.Ieee.{low, up, down, size, minus, lt, le, fits}
 use Rattle.std.specs.Float.Ieee.Exact.{HasValue}
 use Rattle.vector.specs.Number.{f0, f1}
 use Rattle.vector.specs.Tolerance.{magnitude}
-use Rattle.vector.specs.Vector.{Vector, norm, scale, unit}
+use Rattle.vector.specs.Vector.{Vector, norm, plane_of, scale, unit}
+use Rattle.vector.specs.declared.Plane.{Plane}
 
 -- 2
 abbrev pub two : Float
@@ -74,6 +75,10 @@ NormInRange = (a : Vector) → Scalable a → length a ≤ 3 → (le f1 (norm (s
 -- So such a normal is not refused for its length: a unit is found of it.
 abbrev pub UnitFound : Type 0
 UnitFound = (a : Vector) → Scalable a → length a ≤ 3 → (u : Vector) × (option_and_then unit (scaled_normal a) ≡ Some u)
+
+-- So a plane has such a normal: of three f64s, all finite, one other than 0, no vector whose unit is taken is too short.
+abbrev pub PlaneFound : Type 0
+PlaneFound = (o a : Vector) → Scalable a → length a ≡ 3 → (f : Plane) × (option_and_then (plane_of o) (scaled_normal a) ≡ Some f)
 
 -- no unit is found of a vector of zeros
 abbrev pub ZeroNotFound : Type 0
