@@ -1,17 +1,32 @@
 -- What is found of a scaled normal, by whether it has a direction. Assumes nothing.
-use Rattle.std.specs.Prelude.{◌≡◌, Bool, true, false, ◌&&◌, cond, ◌≤◌, length, Option, Some, None}
-use mathlib.Core.Path.{ap, refl}
+use Rattle.std.specs.Prelude.{◌≡◌, ℕ, eqb, Bool, true, false, ◌&&◌, cond, ◌≤◌, length, Option, Some, None}
+use mathlib.Core.Path.{ap, refl, sym, ◌∙◌}
 use Rattle.std.specs.Option.{option_and_then}
-use Rattle.std.specs.Float.Ieee.{lt}
+use Rattle.std.specs.Float.{binary64}
+use Rattle.std.specs.Float.Ieee.{lt, mul}
+use Rattle.std.proofs.lemmas.List.{length-map}
+use Rattle.rows.specs.Outcome.{unless}
 use Rattle.vector.specs.Number.{f0}
 use Rattle.vector.specs.Tolerance.{magnitude}
-use Rattle.vector.specs.Vector.{Vector, plane_of, unit, with_normal}
-use Rattle.vector.specs.Scaled.{finite, Held, scaled, scaled_normal}
+use Rattle.vector.specs.Vector.{Vector, plane_of, scale, unit, with_normal}
+use Rattle.vector.specs.Scaled.{finite, Held, power, scaled, scaled_normal, units_in}
 use Rattle.vector.specs.declared.Plane.{Plane}
 use Rattle.vector.proofs.ScaledNormals.{unit_found, zero_not_found}
 use Rattle.vector.proofs.ScaledPlanes.{plane_found}
-use Rattle.cuts.specs.Cuts.{frame_in}
-use Rattle.cuts.specs.Scaled.{FoundIf, has_direction, ScaledPlaced}
+use Rattle.cuts.specs.Cuts.{frame_in, placed_by, through}
+use Rattle.cuts.specs.Scaled.{FoundIf, has_direction, ScaledFirst, ScaledPlaced}
+
+length_scaled : (v : Vector) → length (scaled v) ≡ length v
+length_scaled v = by (lt f0 (magnitude v))
+  where
+    by : (t : Bool) → length (cond t (scale (power (units_in (magnitude v))) v) v) ≡ length v
+    by true = length-map v (mul binary64 (power (units_in (magnitude v))))
+    by false = refl
+
+pub scaled_first : ScaledFirst
+scaled_first o v f =
+    ap (λ (x : Option Vector). placed_by 3 (through o v) (frame_in (option_and_then (plane_of o) x))) (ap (λ (t : Bool). cond t (Some (scaled v)) None) f)
+    ∙ ap (λ (n : ℕ). unless 5 (eqb (length o) 3 && eqb n 3) (frame_in (plane_of o (scaled v)))) (sym (length_scaled v))
 
 -- some or none
 abbrev pub SomeIf : {A : Type 0} → Bool → Option A → Type 0

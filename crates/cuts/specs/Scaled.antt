@@ -1,14 +1,19 @@
--- When a cut by a scaled normal is refused with 6. Definitions and statements only; the theorem is in proofs/Scaled.antt.
+-- A cut by a scaled normal: it is the one by the normal that scaling gives, and when it is refused with 6. Definitions and statements only;
+-- the theorems are in proofs/Scaled.antt.
 use Rattle.std.specs.Prelude.{◌≡◌, Bool, true, false, ◌&&◌, length, Float}
 use mathlib.Core.List.{List}
 use Rattle.rows.specs.Outcome.{Outcome, refused, found}
 use Rattle.std.specs.Float.Ieee.{lt}
 use Rattle.vector.specs.Number.{f0}
 use Rattle.vector.specs.Tolerance.{magnitude}
-use Rattle.vector.specs.Scaled.{finite, Held}
-use Rattle.cuts.specs.Cuts.{place_in, through_by}
+use Rattle.vector.specs.Scaled.{finite, Held, scaled}
+use Rattle.cuts.specs.Cuts.{place_in, through, through_by}
 use Rattle.cuts.specs.declared.Scaling.TheVariants.{Scaled}
 use Rattle.cuts.specs.declared.Way.TheVariants.{Normal}
+
+-- The scaled way is the way as given, of the scaled normal.
+abbrev pub ScaledFirst : Type 0
+ScaledFirst = (o v : List Float) → finite v ≡ true → place_in Normal (through_by Scaled o v) ≡ place_in Normal (through o (scaled v))
 
 -- every component is finite, and one is not 0
 abbrev pub has_direction : List Float → Bool
