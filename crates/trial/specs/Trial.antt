@@ -101,6 +101,10 @@ frame_rows f out = put 3 (put 3 (put 3 out 0 f.normal) 1 f.u) 2 f.v
 abbrev pub FrameGiven : Option Plane → ℕ → List Float → List Float → Type 0
 FrameGiven f r out out' = Given frame_rows f r out out'
 
+abbrev pub UnitGiven : Option Vector → ℕ → List Float → List Float → Type 0
+UnitGiven a r out out' = Given (λ v xs. put 2 xs 0 v) a r out out'
+
+-- a vector of w numbers
 abbrev pub VectorGiven : ℕ → Option Vector → ℕ → List Float → List Float → Type 0
 VectorGiven w a r out out' = Given (λ v xs. put w xs 0 v) a r out out'
 

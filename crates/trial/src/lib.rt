@@ -10,7 +10,7 @@ ghost use Rattle.vector.specs.Tolerance.{tolerance};
 ghost use Rattle.vector.specs.Scaled.{scaled_normal};
 ghost use Rattle.stitch.specs.Code.{Stitchable};
 ghost use Rattle.stitch.specs.Entry.{strictness_of};
-ghost use Rattle.trial.specs.Trial.{ClipFits, Clips, FrameGiven, Refused, Stitching, Total, Unclipped, Unstitched, VectorGiven, deprojected, plane_in, projected, stitched_in};
+ghost use Rattle.trial.specs.Trial.{ClipFits, Clips, FrameGiven, Refused, Stitching, Total, Unclipped, UnitGiven, Unstitched, VectorGiven, deprojected, plane_in, projected, stitched_in};
 
 use clip::polygon::{Cut, plane_section_segments};
 use stitch::{StitchedSegments, Strictness};
@@ -259,7 +259,7 @@ fn plane_in(rows: &[f64]) -> Plane
 // The unit normal of a line in the plane with this normal, written to out. Gives 1, or 0 if there is none.
 #[unsafe(no_mangle)]
 pub extern "C" fn trial_line_normal(x: f64, y: f64, out: &mut [f64]) -> usize
-    ensures { Total (2 ≤ length out.old) (VectorGiven 2 (unit (x ∷ y ∷ [])) result out.old out.new)
+    ensures { Total (2 ≤ length out.old) (UnitGiven (unit (x ∷ y ∷ [])) result out.old out.new)
         (Refused result out.old out.new) }
 {
     put_unit(vector::unit([x, y]), out)
@@ -268,7 +268,7 @@ pub extern "C" fn trial_line_normal(x: f64, y: f64, out: &mut [f64]) -> usize
 // The same for a line with this direction.
 #[unsafe(no_mangle)]
 pub extern "C" fn trial_line_normal_along(x: f64, y: f64, out: &mut [f64]) -> usize
-    ensures { Total (2 ≤ length out.old) (VectorGiven 2 (normal_along (x ∷ y ∷ [])) result out.old out.new)
+    ensures { Total (2 ≤ length out.old) (UnitGiven (normal_along (x ∷ y ∷ [])) result out.old out.new)
         (Refused result out.old out.new) }
 {
     put_unit(vector::normal_along([x, y]), out)
@@ -276,7 +276,7 @@ pub extern "C" fn trial_line_normal_along(x: f64, y: f64, out: &mut [f64]) -> us
 
 // Writes a unit vector. Gives 1, or 0 if there is none.
 fn put_unit(found: Option<[f64; 2]>, out: &mut [f64]) -> usize
-    ensures { Total (2 ≤ length out.old) (VectorGiven 2 found result out.old out.new) (Refused result out.old out.new) }
+    ensures { Total (2 ≤ length out.old) (UnitGiven found result out.old out.new) (Refused result out.old out.new) }
 {
     if out.len() < 2 {
         return REFUSED;
