@@ -28,7 +28,7 @@ pub record Through : Type 0 where
 abbrev pub through_by : Scaling → List Float → List Float → Through
 through_by scaling o v = record { origin = o; vector = v; scaling = scaling }
 
--- and in the way that was there first, as a direction is taken
+-- and with its vector as it is given, as a direction is
 abbrev pub through : List Float → List Float → Through
 through o v = through_by AsGiven o v
 

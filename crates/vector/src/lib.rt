@@ -125,8 +125,8 @@ fn is_finite<const D: usize>(v: [f64; D]) -> bool
 // The pattern of the smallest normal number: the exponents of patterns count in it.
 const NORMAL: u64 = 0x10_0000_0000_0000;
 
-// The greatest power of two that is not above x. Each is an f64, as the power that brings 2^-1074 to 1 is not: so x is divided, by a quotient
-// that is rounded once.
+// The greatest power of two that is not above x. It is an f64 for every x, while 2^1074, which brings 2^-1074 to 1, is none. So a vector is
+// divided by the one, and a quotient is rounded once.
 fn power_below(x: f64) -> f64
     requires { (lt f0 x ≡ true) × (float_is_finite x ≡ true) }
     ensures { result ≡ power_below (units_in x) }
