@@ -11,7 +11,15 @@ const NODES: [u64; 8] = [0, 1, 2, 3, 4, 5, 6, 7];
 fn main() -> Result<(), Refusal> {
     let (origin, normal) = ([0., 0., 0.5], [0., 0., 1.]);
     let tol = tolerance_in_space(&COORDS)?;
-    let gathered = gather(SpaceType::Hex8, &NODES, &COORDS, &origin, &normal, tol)?;
+    let gathered = gather(
+        SpaceType::Hex8,
+        &NODES,
+        &COORDS,
+        &origin,
+        &normal,
+        false,
+        tol,
+    )?;
     for (number, [a, b]) in gathered.segments.iter().enumerate() {
         println!("segment {number}: {} {} to {} {}", a[0], a[1], b[0], b[1]);
     }
@@ -21,6 +29,7 @@ fn main() -> Result<(), Refusal> {
         &COORDS,
         &origin,
         &normal,
+        false,
         false,
         tol,
     )?;

@@ -12,7 +12,7 @@
 //! | [`cut_plane_cell_by_normal`], [`cut_plane_cell_by_direction`], n corners | 6n | | |
 //! | [`stitch`], s segments | 4s | s | s / 3 |
 
-use crate::linked::{self, SegmentsOf};
+use crate::linked::{self, ByDirection, ByNormal};
 use crate::{Edges, Refusal};
 
 /// Buffers for a section: the points, two numbers each; the nodes of loop after loop; where each loop ends.
@@ -61,6 +61,7 @@ pub fn cut_by_plane(
     coords: &[f64],
     origin: &[f64],
     normal: &[f64],
+    scaled: bool,
     strict: bool,
     tol: f64,
     into: Buffers<'_>,
@@ -71,23 +72,26 @@ pub fn cut_by_plane(
         ends,
     } = into;
     written(linked::plane(
-        number, conn, coords, origin, normal, strict, tol, numbers, nodes, ends,
+        number, conn, coords, origin, normal, scaled, strict, tol, numbers, nodes, ends,
     ))
 }
 
 /// The segments that a plane cut stitches, four numbers each. See [`crate::gather`].
+// One argument for each of the header's lists, and the buffer.
+#[allow(clippy::too_many_arguments)]
 pub fn gather(
     number: u8,
     conn: &[u64],
     coords: &[f64],
     origin: &[f64],
     normal: &[f64],
+    scaled: bool,
     tol: f64,
     numbers: &mut [f64],
 ) -> Result<WrittenLine, Refusal> {
-    let of = SegmentsOf::Gather;
-    segments(linked::segments(
-        of, number, conn, coords, origin, normal, tol, numbers,
+    let of = ByNormal::Gather;
+    segments(linked::segments_by_normal(
+        of, number, conn, coords, origin, normal, scaled, tol, numbers,
     ))
 }
 
@@ -118,26 +122,29 @@ pub fn cut_by_line(
     tol: f64,
     numbers: &mut [f64],
 ) -> Result<WrittenLine, Refusal> {
-    let of = SegmentsOf::LineInSpace;
-    segments(linked::segments(
+    let of = ByDirection::LineInSpace;
+    segments(linked::segments_by_direction(
         of, number, conn, coords, origin, direction, tol, numbers,
     ))
 }
 
 /// A plane cell cut by a line that its normal gives, four numbers a segment. See
 /// [`crate::cut_plane_cell_by_normal`].
+// One argument for each of the header's lists, and the buffer.
+#[allow(clippy::too_many_arguments)]
 pub fn cut_plane_cell_by_normal(
     number: u8,
     conn: &[u64],
     coords: &[f64],
     origin: &[f64],
     normal: &[f64],
+    scaled: bool,
     tol: f64,
     numbers: &mut [f64],
 ) -> Result<WrittenLine, Refusal> {
-    let of = SegmentsOf::PlaneCellByNormal;
-    segments(linked::segments(
-        of, number, conn, coords, origin, normal, tol, numbers,
+    let of = ByNormal::PlaneCell;
+    segments(linked::segments_by_normal(
+        of, number, conn, coords, origin, normal, scaled, tol, numbers,
     ))
 }
 
@@ -152,8 +159,8 @@ pub fn cut_plane_cell_by_direction(
     tol: f64,
     numbers: &mut [f64],
 ) -> Result<WrittenLine, Refusal> {
-    let of = SegmentsOf::PlaneCellByDirection;
-    segments(linked::segments(
+    let of = ByDirection::PlaneCell;
+    segments(linked::segments_by_direction(
         of, number, conn, coords, origin, direction, tol, numbers,
     ))
 }

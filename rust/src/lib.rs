@@ -15,7 +15,7 @@
 //! let tol = tolerance_in_space(&coords)?;
 //! let nodes = [0, 1, 2, 3, 4, 5, 6, 7];
 //! let (origin, normal) = ([0., 0., 0.5], [0., 0., 1.]);
-//! let section = cut_by_plane(SpaceType::Hex8, &nodes, &coords, &origin, &normal, false, tol)?;
+//! let section = cut_by_plane(SpaceType::Hex8, &nodes, &coords, &origin, &normal, false, false, tol)?;
 //!
 //! assert_eq!(section.points, [[0., 0.], [1., 0.], [1., 1.], [0., 1.]]);
 //! assert_eq!(section.loops().collect::<Vec<_>>(), [[0, 1, 2, 3]]);
@@ -25,6 +25,31 @@
 //!
 //! What is proved of the functions, and what is not, stands in the repository's docs/CLAIMS.md. This crate is
 //! not proved; it is thin, and its only unsafe code is in `src/linked.rs`.
+//!
+//! # The scaled way
+//!
+//! [`cut_by_plane`], [`gather`] and [`cut_plane_cell_by_normal`] take `scaled`: with `false` a normal is taken as it is given,
+//! with `true` scaled. A normal as it is given is made unit by its squares, as mefikit does it. They overflow where a component
+//! is beyond about 1e154 in absolute value: the unit normal is then 0, and the section silently empty. They lose digits, or are
+//! all 0 and the normal is refused with [`Refusal::NoDirection`], where all components are within about 1e-154. A scaled normal
+//! may be of any length: it is first multiplied by the power of two that brings its greatest absolute component to at least 1
+//! and under 2, each component being the exact product rounded once. Its norm is then from 1 to 4, so it is not refused
+//! for its length. A normal of zeros is not scaled and is refused with [`Refusal::NoDirection`], and so is one with a component
+//! that is NaN or infinite. Scale normals that were worked out, by a cross product or a division by a determinant; take them as
+//! given to have what mefikit has. Where no square overflows or underflows, both give the same. Directions are not scaled.
+//!
+//! ```
+//! use cicelybeam::{cut_by_plane, SpaceType};
+//!
+//! let coords = [0., 0., 0., 1., 0., 0., 0., 1., 0., 0., 0., 1.];
+//! let origin = [0., 0., 0.25];
+//! // through this point across (0, 0, 1), divided by a determinant that is nearly zero
+//! let normal = [0., 0., 1. / 1e-200];
+//! let cut = |scaled| cut_by_plane(SpaceType::Tet4, &[0, 1, 2, 3], &coords, &origin, &normal, scaled, false, 0.);
+//! assert_eq!(cut(false)?.loops().count(), 0);
+//! assert_eq!(cut(true)?.loops().count(), 1);
+//! # Ok::<(), cicelybeam::Refusal>(())
+//! ```
 //!
 //! # The strict way
 //!
@@ -101,24 +126,28 @@ pub const MOST_SEGMENTS: usize = 384;
 ///
 /// `tol` is the distance up to which a point counts as on the plane, and two points as one: usually
 /// [`tolerance_in_space`] of the mesh. Any number is taken. With less than that, a crossing that was rounded
-/// may not count as on the plane, and its edge is then not found. `strict` chooses [the way](crate#the-strict-way).
+/// may not count as on the plane, and its edge is then not found. `scaled` chooses [how the normal is taken](crate#the-scaled-way),
+/// and `strict` [the way](crate#the-strict-way).
 ///
 /// ```
 /// use cicelybeam::{cut_by_plane, Refusal, SpaceType};
 ///
 /// let coords = [0., 0., 0., 1., 0., 0., 0., 1., 0., 0., 0., 1.];
 /// let origin = [0., 0., 0.25];
-/// let cut = |normal| cut_by_plane(SpaceType::Tet4, &[0, 1, 2, 3], &coords, &origin, normal, false, 0.);
+/// let cut = |normal| cut_by_plane(SpaceType::Tet4, &[0, 1, 2, 3], &coords, &origin, normal, false, false, 0.);
 /// assert_eq!(cut(&[0., 0., 1.])?.loops().count(), 1);
 /// assert_eq!(cut(&[0., 0., 0.]), Err(Refusal::NoDirection));
 /// # Ok::<(), Refusal>(())
 /// ```
+// One argument for each of the header's lists.
+#[allow(clippy::too_many_arguments)]
 pub fn cut_by_plane(
     cell: SpaceType,
     conn: &[u64],
     coords: &[f64],
     origin: &[f64],
     normal: &[f64],
+    scaled: bool,
     strict: bool,
     tol: f64,
 ) -> Result<Section, Refusal> {
@@ -131,6 +160,7 @@ pub fn cut_by_plane(
             coords,
             origin,
             normal,
+            scaled,
             strict,
             tol,
             into,
@@ -141,8 +171,8 @@ pub fn cut_by_plane(
 /// The segments that [`cut_by_plane`] stitches, before they are stitched: those of each face, faces in their order,
 /// in the plane's own coordinates.
 ///
-/// [`stitch`] of them with the same `strict` and `tol` gives what [`cut_by_plane`] gives but for `defaulted`, which is told here:
-/// stitching computes no crossing. A face alone can be handed over as a [`SpaceType::Phed`] of one face; a cell's
+/// [`stitch`] of them with the same `tol` gives what [`cut_by_plane`] gives with the same `scaled` and `strict`, but for `defaulted`,
+/// which is told here: stitching computes no crossing. `scaled` chooses [how the normal is taken](crate#the-scaled-way). A face alone can be handed over as a [`SpaceType::Phed`] of one face; a cell's
 /// segments are those of its faces, in their order, and its `defaulted` is their sum.
 ///
 /// ```
@@ -150,9 +180,9 @@ pub fn cut_by_plane(
 ///
 /// let coords = [0., 0., 0., 1., 0., 0., 0., 1., 0., 0., 0., 1.];
 /// let (nodes, origin, normal) = ([0, 1, 2, 3], [0., 0., 0.25], [0., 0., 1.]);
-/// let gathered = gather(SpaceType::Tet4, &nodes, &coords, &origin, &normal, 0.)?;
+/// let gathered = gather(SpaceType::Tet4, &nodes, &coords, &origin, &normal, false, 0.)?;
 /// assert_eq!(gathered.segments.len(), 3);
-/// let section = cut_by_plane(SpaceType::Tet4, &nodes, &coords, &origin, &normal, false, 0.)?;
+/// let section = cut_by_plane(SpaceType::Tet4, &nodes, &coords, &origin, &normal, false, false, 0.)?;
 /// let stitched = stitch(&gathered.segments, false, 0.)?;
 /// assert_eq!(Section { defaulted: gathered.defaulted, ..stitched }, section);
 /// # Ok::<(), cicelybeam::Refusal>(())
@@ -163,11 +193,21 @@ pub fn gather(
     coords: &[f64],
     origin: &[f64],
     normal: &[f64],
+    scaled: bool,
     tol: f64,
 ) -> Result<Line<2>, Refusal> {
     let room = 6 * cell.face_corners(conn.len());
     section::filled_line(room, |numbers| {
-        lent::gather(cell.number(), conn, coords, origin, normal, tol, numbers)
+        lent::gather(
+            cell.number(),
+            conn,
+            coords,
+            origin,
+            normal,
+            scaled,
+            tol,
+            numbers,
+        )
     })
 }
 
@@ -202,13 +242,15 @@ pub fn cut_by_line(
     })
 }
 
-/// The part of the line through `origin` with this normal that lies in a plane cell, as segments.
+/// The part of the line through `origin` with this normal that lies in a plane cell, as segments. `scaled` chooses
+/// [how the normal is taken](crate#the-scaled-way).
 ///
 /// ```
 /// use cicelybeam::{cut_plane_cell_by_normal, PlaneType};
 ///
 /// let square = [0., 0., 1., 0., 1., 1., 0., 1.];
-/// let found = cut_plane_cell_by_normal(PlaneType::Quad4, &[0, 1, 2, 3], &square, &[0., 0.5], &[0., 1.], 0.)?;
+/// let (origin, normal) = ([0., 0.5], [0., 1.]);
+/// let found = cut_plane_cell_by_normal(PlaneType::Quad4, &[0, 1, 2, 3], &square, &origin, &normal, false, 0.)?;
 /// assert_eq!(found.segments, [[[0., 0.5], [1., 0.5]]]);
 /// # Ok::<(), cicelybeam::Refusal>(())
 /// ```
@@ -218,11 +260,21 @@ pub fn cut_plane_cell_by_normal(
     coords: &[f64],
     origin: &[f64],
     normal: &[f64],
+    scaled: bool,
     tol: f64,
 ) -> Result<Line<2>, Refusal> {
     let room = 6 * cell.corners(conn.len());
     section::filled_line(room, |numbers| {
-        lent::cut_plane_cell_by_normal(cell.number(), conn, coords, origin, normal, tol, numbers)
+        lent::cut_plane_cell_by_normal(
+            cell.number(),
+            conn,
+            coords,
+            origin,
+            normal,
+            scaled,
+            tol,
+            numbers,
+        )
     })
 }
 

@@ -60,8 +60,25 @@ pub struct Tolerance {
     pub value: f64,
 }
 
-/// The functions that give segments: type, nodes, coordinates, origin, vector, tolerance, numbers.
-type GivesSegments = unsafe extern "C" fn(
+/// The functions that give segments by a normal: type, nodes, coordinates, origin, normal, `scaled`, tolerance, numbers.
+type GivesByNormal = unsafe extern "C" fn(
+    u8,
+    *const u64,
+    usize,
+    *const f64,
+    usize,
+    *const f64,
+    usize,
+    *const f64,
+    usize,
+    u8,
+    f64,
+    *mut f64,
+    usize,
+) -> Line;
+
+/// The same by a direction, which is not scaled.
+type GivesByDirection = unsafe extern "C" fn(
     u8,
     *const u64,
     usize,
@@ -87,6 +104,7 @@ extern "C" {
         origin_len: usize,
         normal: *const f64,
         normal_len: usize,
+        scaled: u8,
         strict: u8,
         tol: f64,
         numbers: *mut f64,
@@ -106,6 +124,7 @@ extern "C" {
         origin_len: usize,
         normal: *const f64,
         normal_len: usize,
+        scaled: u8,
         tol: f64,
         numbers: *mut f64,
         numbers_len: usize,
@@ -134,6 +153,7 @@ extern "C" {
         origin_len: usize,
         normal: *const f64,
         normal_len: usize,
+        scaled: u8,
         tol: f64,
         numbers: *mut f64,
         numbers_len: usize,
@@ -175,6 +195,7 @@ pub fn plane(
     coords: &[f64],
     origin: &[f64],
     normal: &[f64],
+    scaled: bool,
     strict: bool,
     tol: f64,
     numbers: &mut [f64],
@@ -193,6 +214,7 @@ pub fn plane(
             origin.len(),
             normal.as_ptr(),
             normal.len(),
+            u8::from(scaled),
             u8::from(strict),
             tol,
             numbers.as_mut_ptr(),
@@ -205,30 +227,27 @@ pub fn plane(
     }
 }
 
-/// Which function gives the segments.
+/// Which function gives the segments by a normal.
 #[derive(Clone, Copy)]
-pub enum SegmentsOf {
+pub enum ByNormal {
     Gather,
-    LineInSpace,
-    PlaneCellByNormal,
-    PlaneCellByDirection,
+    PlaneCell,
 }
 
-pub fn segments(
-    of: SegmentsOf,
+pub fn segments_by_normal(
+    of: ByNormal,
     number: u8,
     conn: &[u64],
     coords: &[f64],
     origin: &[f64],
-    vector: &[f64],
+    normal: &[f64],
+    scaled: bool,
     tol: f64,
     numbers: &mut [f64],
 ) -> Line {
-    let give: GivesSegments = match of {
-        SegmentsOf::Gather => cicelybeam_gather,
-        SegmentsOf::LineInSpace => cicelybeam_line_in_space,
-        SegmentsOf::PlaneCellByNormal => cicelybeam_plane_cell_by_normal,
-        SegmentsOf::PlaneCellByDirection => cicelybeam_plane_cell_by_direction,
+    let give: GivesByNormal = match of {
+        ByNormal::Gather => cicelybeam_gather,
+        ByNormal::PlaneCell => cicelybeam_plane_cell_by_normal,
     };
     // SAFETY: see the top of this file.
     unsafe {
@@ -240,8 +259,49 @@ pub fn segments(
             coords.len(),
             origin.as_ptr(),
             origin.len(),
-            vector.as_ptr(),
-            vector.len(),
+            normal.as_ptr(),
+            normal.len(),
+            u8::from(scaled),
+            tol,
+            numbers.as_mut_ptr(),
+            numbers.len(),
+        )
+    }
+}
+
+/// Which function gives the segments by a direction.
+#[derive(Clone, Copy)]
+pub enum ByDirection {
+    LineInSpace,
+    PlaneCell,
+}
+
+pub fn segments_by_direction(
+    of: ByDirection,
+    number: u8,
+    conn: &[u64],
+    coords: &[f64],
+    origin: &[f64],
+    direction: &[f64],
+    tol: f64,
+    numbers: &mut [f64],
+) -> Line {
+    let give: GivesByDirection = match of {
+        ByDirection::LineInSpace => cicelybeam_line_in_space,
+        ByDirection::PlaneCell => cicelybeam_plane_cell_by_direction,
+    };
+    // SAFETY: see the top of this file.
+    unsafe {
+        give(
+            number,
+            conn.as_ptr(),
+            conn.len(),
+            coords.as_ptr(),
+            coords.len(),
+            origin.as_ptr(),
+            origin.len(),
+            direction.as_ptr(),
+            direction.len(),
             tol,
             numbers.as_mut_ptr(),
             numbers.len(),

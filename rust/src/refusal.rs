@@ -17,7 +17,8 @@ pub enum Refusal {
     NoSuchRow = 4,
     /// 5: origin, normal or direction is not of three numbers, or of two in the plane.
     VectorLength = 5,
-    /// 6: the norm of a vector is not greater than 0 where it has to be made one of length 1.
+    /// 6: the norm of a vector is not greater than 0 where it has to be made one of length 1; or a component of a normal
+    /// that is to be [scaled](crate#the-scaled-way) is not finite.
     NoDirection = 6,
     /// 7: a buffer is too short. Only the functions of [`lent`](crate::lent) take buffers.
     ShortBuffer = 7,
@@ -85,7 +86,9 @@ impl Refusal {
             Refusal::VectorLength => {
                 "origin, normal or direction has not as many numbers as a row of coordinates"
             }
-            Refusal::NoDirection => "the norm of a vector is not greater than 0",
+            Refusal::NoDirection => {
+                "the norm of a vector is not greater than 0, or a component of a normal to be scaled is not finite"
+            }
             Refusal::ShortBuffer => "a buffer is too short",
             Refusal::Segments => "the segments are not four numbers each, or over 384",
         }

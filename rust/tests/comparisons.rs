@@ -105,7 +105,17 @@ fn plane_cuts() {
     let nodes = [0, 1, 2, 3, 4, 5, 6, 7];
     let at = |z, tol| {
         let (origin, up) = ([0., 0., z], [0., 0., 1.]);
-        cut_by_plane(SpaceType::Hex8, &nodes, &coords, &origin, &up, false, tol).unwrap()
+        cut_by_plane(
+            SpaceType::Hex8,
+            &nodes,
+            &coords,
+            &origin,
+            &up,
+            false,
+            false,
+            tol,
+        )
+        .unwrap()
     };
     assert_eq!(at(0.5, 0.).comparisons, sum(&[0, 1, 2, 3, 2, 3, 4, 1]));
     assert_eq!(at(2., 0.).comparisons, 0);
@@ -125,8 +135,18 @@ fn a_plane_cut_compares_as_stitching_what_it_gathers() {
         let nodes = walls.join(&FACE_END);
         let (origin, up) = ([0., 0., 0.5], [0., 0., 1.]);
         let tol = tolerance_in_space(&coords).unwrap();
-        let cut = cut_by_plane(SpaceType::Phed, &nodes, &coords, &origin, &up, false, tol).unwrap();
-        let gathered = gather(SpaceType::Phed, &nodes, &coords, &origin, &up, tol).unwrap();
+        let cut = cut_by_plane(
+            SpaceType::Phed,
+            &nodes,
+            &coords,
+            &origin,
+            &up,
+            false,
+            false,
+            tol,
+        )
+        .unwrap();
+        let gathered = gather(SpaceType::Phed, &nodes, &coords, &origin, &up, false, tol).unwrap();
         assert_eq!(stitch(&gathered.segments, false, tol), Ok(cut.clone()));
         let n = n as u32;
         assert_eq!(

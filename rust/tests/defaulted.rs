@@ -13,7 +13,7 @@ const LEAST: f64 = 5e-324;
 fn triangle(high: f64, low: [f64; 2], tol: f64) -> Line<2> {
     let coords = [0., high, 4., high, low[0], low[1]];
     let (tri, nodes, origin) = (PlaneType::Tri3, [0, 1, 2], [0., 0.]);
-    let by_normal = cut_plane_cell_by_normal(tri, &nodes, &coords, &origin, &[0., 1.], tol);
+    let by_normal = cut_plane_cell_by_normal(tri, &nodes, &coords, &origin, &[0., 1.], false, tol);
     let by_direction = cut_plane_cell_by_direction(tri, &nodes, &coords, &origin, &[1., 0.], tol);
     let [by_normal, by_direction] = [by_normal.unwrap(), by_direction.unwrap()];
     assert_eq!(by_direction.defaulted, by_normal.defaulted);
@@ -78,13 +78,23 @@ fn a_brick_of_side_1e_310() {
     let coords = [level(0.), level(1.)].concat().concat();
     let nodes = [0, 1, 2, 3, 4, 5, 6, 7];
     let (origin, up) = ([0., 0., 5e-311], [0., 0., 1.]);
-    let gathered = gather(SpaceType::Hex8, &nodes, &coords, &origin, &up, 0.).unwrap();
+    let gathered = gather(SpaceType::Hex8, &nodes, &coords, &origin, &up, false, 0.).unwrap();
     assert_eq!((gathered.segments.len(), gathered.defaulted), (0, 8));
-    let section = cut_by_plane(SpaceType::Hex8, &nodes, &coords, &origin, &up, false, 0.).unwrap();
+    let section = cut_by_plane(
+        SpaceType::Hex8,
+        &nodes,
+        &coords,
+        &origin,
+        &up,
+        false,
+        false,
+        0.,
+    )
+    .unwrap();
     assert_eq!((section.edges, section.defaulted), (Edges::default(), 8));
     let faces = [[0, 1, 5, 4], [4, 5, 6, 7]];
     let alone = faces.map(|face| {
-        let found = gather(SpaceType::Phed, &face, &coords, &origin, &up, 0.).unwrap();
+        let found = gather(SpaceType::Phed, &face, &coords, &origin, &up, false, 0.).unwrap();
         found.defaulted
     });
     assert_eq!(alone, [2, 0]);
@@ -99,7 +109,17 @@ fn a_line_in_space_adds_those_of_its_loops() {
     let coords = [end(0., -s), end(2., s)].concat().concat();
     let nodes = [0, 1, 2, 3, 4, 5];
     let wedge = SpaceType::Wedge6;
-    let plane = cut_by_plane(wedge, &nodes, &coords, &[0.; 3], &[0., -1., 0.], false, 0.).unwrap();
+    let plane = cut_by_plane(
+        wedge,
+        &nodes,
+        &coords,
+        &[0.; 3],
+        &[0., -1., 0.],
+        false,
+        false,
+        0.,
+    )
+    .unwrap();
     assert_eq!((plane.ends.len(), plane.defaulted), (1, 6));
     let line = cut_by_line(wedge, &nodes, &coords, &[0.; 3], &[1., 0., 0.], 0.).unwrap();
     assert_eq!((line.segments.len(), line.defaulted), (1, 8));
@@ -112,14 +132,31 @@ fn the_most_of_one_face() {
     let height = |k: usize| if k.is_multiple_of(2) { LEAST } else { -LEAST };
     let rows: Vec<[f64; 2]> = (0..256).map(|k| [k as f64, height(k)]).collect();
     let flat = rows.as_flattened();
-    let by_normal =
-        cut_plane_cell_by_normal(PlaneType::Pgon, &nodes, flat, &[0., 0.], &[0., 1.], 0.);
+    let by_normal = cut_plane_cell_by_normal(
+        PlaneType::Pgon,
+        &nodes,
+        flat,
+        &[0., 0.],
+        &[0., 1.],
+        false,
+        0.,
+    );
     assert_eq!(by_normal.unwrap().defaulted, 256);
     let coords: Vec<f64> = rows.iter().flat_map(|[x, z]| [*x, x * x, *z]).collect();
     let up = [0., 0., 1.];
-    let gathered = gather(SpaceType::Phed, &nodes, &coords, &[0.; 3], &up, 0.).unwrap();
+    let gathered = gather(SpaceType::Phed, &nodes, &coords, &[0.; 3], &up, false, 0.).unwrap();
     assert_eq!((gathered.segments.len(), gathered.defaulted), (128, 256));
-    let section = cut_by_plane(SpaceType::Phed, &nodes, &coords, &[0.; 3], &up, false, 0.).unwrap();
+    let section = cut_by_plane(
+        SpaceType::Phed,
+        &nodes,
+        &coords,
+        &[0.; 3],
+        &up,
+        false,
+        false,
+        0.,
+    )
+    .unwrap();
     assert_eq!((section.edges.open, section.defaulted), (128, 256));
 }
 
@@ -129,7 +166,7 @@ fn none() {
     let coords = [0., 0., 0., 1., 0., 0., 0., 1., 0., 0., 0., 1.];
     let at = |z| {
         let (tet, nodes, up) = (SpaceType::Tet4, [0, 1, 2, 3], [0., 0., 1.]);
-        cut_by_plane(tet, &nodes, &coords, &[0., 0., z], &up, false, 0.).unwrap()
+        cut_by_plane(tet, &nodes, &coords, &[0., 0., z], &up, false, false, 0.).unwrap()
     };
     assert_eq!((at(0.25).defaulted, at(2.).defaulted), (0, 0));
     let segments = [[[0., 0.], [NAN, 1.]], [[LEAST, -LEAST], [INFINITY, 0.]]];

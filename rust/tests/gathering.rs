@@ -46,6 +46,7 @@ fn the_brick_at_half_its_height() {
         &BRICK,
         &HALF,
         &UP,
+        false,
         0.,
     );
     let sides = [
@@ -66,7 +67,16 @@ fn the_brick_at_half_its_height() {
 fn a_plane_that_misses_or_holds_a_face() {
     let at = |z| {
         let nodes = cell(SpaceType::Hex8).0;
-        gather(SpaceType::Hex8, &nodes, &BRICK, &[0., 0., z], &UP, 0.).unwrap()
+        gather(
+            SpaceType::Hex8,
+            &nodes,
+            &BRICK,
+            &[0., 0., z],
+            &UP,
+            false,
+            0.,
+        )
+        .unwrap()
     };
     assert_eq!(at(0.), at(0.5));
     assert!(at(2.).segments.is_empty());
@@ -92,9 +102,12 @@ fn gathered_and_stitched_is_the_plane_cut() {
             for origin in [HALF, [0.; 3], [0.25, 0.25, 0.25], [f64::NAN; 3]] {
                 for tol in [0., 1e-12, 0.25, -1., f64::NAN, f64::INFINITY] {
                     for coords in [BRICK, with_nan] {
-                        let cut = cut_by_plane(kind, &nodes, &coords, &origin, &normal, false, tol)
-                            .unwrap();
-                        let found = gather(kind, &nodes, &coords, &origin, &normal, tol).unwrap();
+                        let cut = cut_by_plane(
+                            kind, &nodes, &coords, &origin, &normal, false, false, tol,
+                        )
+                        .unwrap();
+                        let found =
+                            gather(kind, &nodes, &coords, &origin, &normal, false, tol).unwrap();
                         let stitched = stitch(&found.segments, false, tol).unwrap();
                         assert_eq!(bits(&stitched), bits(&cut));
                         assert_eq!((found.defaulted, stitched.defaulted), (cut.defaulted, 0));
@@ -111,8 +124,9 @@ fn gathered_and_stitched_is_the_plane_cut() {
 
 #[test]
 fn a_cell_has_the_segments_of_its_faces_in_their_order() {
-    let gathered =
-        |kind, nodes: &[u64]| gather(kind, nodes, &BRICK, &[0.5; 3], &[1., 2., 3.], 1e-12).unwrap();
+    let gathered = |kind, nodes: &[u64]| {
+        gather(kind, nodes, &BRICK, &[0.5; 3], &[1., 2., 3.], false, 1e-12).unwrap()
+    };
     let alone = FACES.map(|face| gathered(SpaceType::Phed, &face).segments);
     let nodes = cell(SpaceType::Hex8).0;
     assert!(alone.iter().filter(|found| !found.is_empty()).count() > 3);
@@ -163,7 +177,16 @@ impl Call {
             normal,
             ..
         } = self;
-        let found = lent::gather(self.number, nodes, coords, origin, normal, 0., &mut numbers);
+        let found = lent::gather(
+            self.number,
+            nodes,
+            coords,
+            origin,
+            normal,
+            false,
+            0.,
+            &mut numbers,
+        );
         assert!(found.is_ok() || numbers.iter().all(untouched));
         found.err().map(Refusal::number)
     }
@@ -187,10 +210,10 @@ fn what_is_not_written_keeps_its_bits() {
         let into = |room| {
             let mut numbers = vec![f64::from_bits(UNTOUCHED); room];
             let number = kind.number();
-            let found = lent::gather(number, &nodes, &BRICK, &HALF, &UP, 0., &mut numbers);
+            let found = lent::gather(number, &nodes, &BRICK, &HALF, &UP, false, 0., &mut numbers);
             (found, numbers)
         };
-        let owned = gather(kind, &nodes, &BRICK, &HALF, &UP, 0.).unwrap();
+        let owned = gather(kind, &nodes, &BRICK, &HALF, &UP, false, 0.).unwrap();
         for room in [6 * kept, 6 * kept + 1, 6 * kept + 50] {
             let (found, numbers) = into(room);
             assert_eq!(found.unwrap().segments, owned.segments.len());

@@ -63,6 +63,7 @@ fn a_line_through_an_open_section_has_no_segment() {
         &middle,
         &[0., 0., 1.],
         false,
+        false,
         1e-12,
     )
     .unwrap();

@@ -41,13 +41,13 @@ fn owned_functions_refuse() {
     let space = SpaceType::Tet4;
     let plane = PlaneType::Tri3;
     refused(
-        |c, x, o, v| cut_by_plane(space, c, x, o, v, false, 0.).err(),
+        |c, x, o, v| cut_by_plane(space, c, x, o, v, false, false, 0.).err(),
         3,
     );
-    refused(|c, x, o, v| gather(space, c, x, o, v, 0.).err(), 3);
+    refused(|c, x, o, v| gather(space, c, x, o, v, false, 0.).err(), 3);
     refused(|c, x, o, v| cut_by_line(space, c, x, o, v, 0.).err(), 3);
     refused(
-        |c, x, o, v| cut_plane_cell_by_normal(plane, c, x, o, v, 0.).err(),
+        |c, x, o, v| cut_plane_cell_by_normal(plane, c, x, o, v, false, 0.).err(),
         2,
     );
     refused(
@@ -91,7 +91,7 @@ fn cut(number: u8, lent: [usize; 3]) -> Result<lent::Written, Refusal> {
         nodes: &mut nodes,
         ends: &mut ends,
     };
-    let found = lent::cut_by_plane(number, &NODES, &TET, &LOW, &UP, false, 0., into);
+    let found = lent::cut_by_plane(number, &NODES, &TET, &LOW, &UP, false, false, 0., into);
     if found.is_err() {
         assert!(untouched(&numbers));
         assert!(nodes.iter().chain(&ends).all(|&x| x == 7));
@@ -104,7 +104,7 @@ fn cut(number: u8, lent: [usize; 3]) -> Result<lent::Written, Refusal> {
 fn where_the_rust_panics_there_is_a_refusal() {
     let tet = SpaceType::Tet4;
     let by = |nodes: &[u64], origin: &[f64], normal: &[f64]| {
-        cut_by_plane(tet, nodes, &TET, origin, normal, false, 0.).unwrap_err()
+        cut_by_plane(tet, nodes, &TET, origin, normal, false, false, 0.).unwrap_err()
     };
     assert_eq!(cut(8, [72, 18, 6]), Err(Refusal::Type));
     assert_eq!(by(&[0, 1, 2, 9], &[0.; 3], &UP), Refusal::NoSuchRow);

@@ -113,7 +113,7 @@ fn without_a_repeated_point_both_ways_are_one() {
 }
 
 fn cut(kind: SpaceType, nodes: &[u64], coords: &[f64], strict: bool) -> Section {
-    cut_by_plane(kind, nodes, coords, &[0.; 3], &UP, strict, 0.).unwrap()
+    cut_by_plane(kind, nodes, coords, &[0.; 3], &UP, false, strict, 0.).unwrap()
 }
 
 /// As a hexahedron, and as a polyhedron of its faces.
@@ -159,7 +159,10 @@ fn ordinary_cells_are_cut_alike_in_both_ways() {
     for (kind, nodes) in cells {
         for normal in [UP, [1., 1., 1.], [-3., 1., 0.5]] {
             let [usual, strict] = [false, true].map(|strict| {
-                cut_by_plane(kind, nodes, &brick, &[0.25; 3], &normal, strict, 1e-12).unwrap()
+                cut_by_plane(
+                    kind, nodes, &brick, &[0.25; 3], &normal, false, strict, 1e-12,
+                )
+                .unwrap()
             });
             assert_eq!(usual, strict);
             assert!(usual.ends.len() == 1 && usual.edges.all_drawn());
@@ -177,7 +180,8 @@ fn a_line_cut_has_the_usual_way() {
         .collect();
     let (origin, along, across) = ([0., 0., 0.5], [1., 0., 0.], [0., -1., 0.]);
     let hex = SpaceType::Hex8;
-    let plane = |strict| cut_by_plane(hex, &EIGHT, &turned, &origin, &across, strict, 0.).unwrap();
+    let plane =
+        |strict| cut_by_plane(hex, &EIGHT, &turned, &origin, &across, false, strict, 0.).unwrap();
     let ends = [false, true].map(|strict| plane(strict).ends);
     assert_eq!(ends, [vec![6], vec![]]);
     let found = cut_by_line(hex, &EIGHT, &turned, &origin, &along, 0.).unwrap();
@@ -187,7 +191,7 @@ fn a_line_cut_has_the_usual_way() {
 /// Stitching what was gathered gives the plane cut in the same way.
 #[test]
 fn gathered_and_stitched_is_the_plane_cut() {
-    let gathered = gather(SpaceType::Hex8, &EIGHT, &TOUCHING, &[0.; 3], &UP, 0.).unwrap();
+    let gathered = gather(SpaceType::Hex8, &EIGHT, &TOUCHING, &[0.; 3], &UP, false, 0.).unwrap();
     for strict in [false, true] {
         let stitched = stitch(&gathered.segments, strict, 0.).unwrap();
         assert_eq!(stitched, cut(SpaceType::Hex8, &EIGHT, &TOUCHING, strict));
@@ -228,7 +232,9 @@ fn buffers_and_refusals_are_those_of_the_usual_way() {
         let stitch = |lengths| lent(lengths, |into| lent::stitch(numbers, strict, 0., into));
         let section = |lengths| {
             lent(lengths, |into| {
-                lent::cut_by_plane(14, &EIGHT, &TOUCHING, &[0.; 3], &UP, strict, 0., into)
+                lent::cut_by_plane(
+                    14, &EIGHT, &TOUCHING, &[0.; 3], &UP, false, strict, 0., into,
+                )
             })
         };
         for longer in [0, 1, 20] {
@@ -249,7 +255,17 @@ fn buffers_and_refusals_are_those_of_the_usual_way() {
             assert_eq!(section(cutting), Err(Refusal::ShortBuffer));
         }
         let cut = |nodes: &[u64], coords: &[f64], origin: &[f64], normal: &[f64]| {
-            cut_by_plane(SpaceType::Hex8, nodes, coords, origin, normal, strict, 0.).unwrap_err()
+            cut_by_plane(
+                SpaceType::Hex8,
+                nodes,
+                coords,
+                origin,
+                normal,
+                false,
+                strict,
+                0.,
+            )
+            .unwrap_err()
         };
         let zero = [0.; 3];
         assert_eq!(cut(&EIGHT[1..], &TOUCHING, &zero, &UP), Refusal::NodeCount);

@@ -19,6 +19,7 @@ fn brick_at(z: f64) -> Section {
         &[0., 0., z],
         &UP,
         false,
+        false,
         0.,
     )
     .unwrap()
@@ -70,7 +71,17 @@ fn case_4_the_tetrahedron() {
     let coords = [0., 0., 0., 1., 0., 0., 0., 1., 0., 0., 0., 1.];
     let at = |z| {
         let (origin, nodes) = ([0., 0., z], [0, 1, 2, 3]);
-        cut_by_plane(SpaceType::Tet4, &nodes, &coords, &origin, &UP, false, 0.).unwrap()
+        cut_by_plane(
+            SpaceType::Tet4,
+            &nodes,
+            &coords,
+            &origin,
+            &UP,
+            false,
+            false,
+            0.,
+        )
+        .unwrap()
     };
     assert!(loops(&at(1.)).is_empty());
     let low = at(0.25);
@@ -148,7 +159,16 @@ fn cases_11_and_12_tolerance_and_roots() {
 fn case_13_odd_normals() {
     let middle = [0.5; 3];
     let plane = |normal: [f64; 3]| {
-        cut_by_plane(SpaceType::Hex8, &EIGHT, &BRICK, &middle, &normal, false, 0.)
+        cut_by_plane(
+            SpaceType::Hex8,
+            &EIGHT,
+            &BRICK,
+            &middle,
+            &normal,
+            false,
+            false,
+            0.,
+        )
     };
     let line = |along: [f64; 3]| cut_by_line(SpaceType::Hex8, &EIGHT, &BRICK, &middle, &along, 0.);
     let huge = [1e200, 0., 0.];
@@ -159,7 +179,7 @@ fn case_13_odd_normals() {
     let infinite = [INFINITY, 0.];
     let (nodes, origin) = ([0, 1, 2, 3], [0.5; 2]);
     let quad = PlaneType::Quad4;
-    let by_normal = cut_plane_cell_by_normal(quad, &nodes, &SQUARE, &origin, &infinite, 0.);
+    let by_normal = cut_plane_cell_by_normal(quad, &nodes, &SQUARE, &origin, &infinite, false, 0.);
     assert!(by_normal.unwrap().segments.is_empty());
     let by_direction = cut_plane_cell_by_direction(quad, &nodes, &SQUARE, &origin, &infinite, 0.);
     assert_eq!(by_direction, Err(Refusal::NoDirection));
@@ -176,7 +196,15 @@ fn case_14_limits() {
     let nodes: Vec<u64> = (0..257).map(|k| k % 4).collect();
     let cut = |n: usize| {
         let (origin, normal) = ([0., 0.5], [0., 1.]);
-        cut_plane_cell_by_normal(PlaneType::Pgon, &nodes[..n], &SQUARE, &origin, &normal, 0.)
+        cut_plane_cell_by_normal(
+            PlaneType::Pgon,
+            &nodes[..n],
+            &SQUARE,
+            &origin,
+            &normal,
+            false,
+            0.,
+        )
     };
     assert!(cut(256).is_ok());
     assert_eq!(cut(257), Err(Refusal::NodeCount));
