@@ -14,6 +14,7 @@ use ndarray::{Array2, ArrayView2};
 
 pub mod counts;
 pub mod mesh;
+pub mod scaling;
 pub mod walks;
 
 // `tools::snap`, and slice.rs four times: `rust`, `counted`, `by_cosine`, `by_rules`.
