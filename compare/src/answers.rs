@@ -3,8 +3,10 @@
 use crate::comparisons;
 use crate::entries::{Case, Cut, Entry, Lent, Told};
 use crate::numbers::agree;
+use oracle::scaling::scaled;
 use oracle::walks::{repeats, Edges, Walked};
 use oracle::{Build, Cell, Section, Segment, Stop};
+use std::borrow::Cow;
 
 /// What a call returns and writes.
 #[derive(Clone, Debug, Default)]
@@ -33,9 +35,23 @@ const MOST_SEGMENTS: usize = 384;
 pub const PGON: u8 = 11;
 pub const PHED: u8 = 18;
 
-/// The answer, by this build of the Rust, and in the strict way by another walk too. `Build::Rust` tells neither crossings in the middle by default nor comparisons of
+/// The case with its normal as it is given: where it asks for a scaled one, with that of the plain model, and for a normal that is not
+/// scaled since a component is not finite with zeros, which are refused at the same place.
+pub fn as_given(case: &Case) -> Cow<'_, Case> {
+    if case.scaled == 0 || !case.entry.takes_normal() {
+        return Cow::Borrowed(case);
+    }
+    Cow::Owned(Case {
+        vector: scaled(&case.vector).unwrap_or(vec![0.0; case.vector.len()]),
+        scaled: 0,
+        ..case.clone()
+    })
+}
+
+/// The answer, by this build of the Rust, to a scaled normal by the plain model's, and in the strict way by another walk too. `Build::Rust` tells neither crossings in the middle by default nor comparisons of
 /// points: it counts none.
 pub fn answer(case: &Case, build: Build) -> Answer {
+    let case = &*as_given(case);
     let found = match case.entry {
         Entry::Plane => plane(case, build),
         Entry::Gather => gather(case, build),

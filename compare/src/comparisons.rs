@@ -1,6 +1,7 @@
 //! The comparisons of points while welding, counted once more from the rules' words; and how many lists and cuts of a run
 //! have the most and the fewest that their segments can have.
 
+use crate::answers::as_given;
 use crate::entries::{Case, Entry};
 use crate::lists::Segment;
 use oracle::{Build, Cell};
@@ -60,6 +61,7 @@ pub fn stitched(case: &Case) -> Vec<Segment> {
 
 /// The segments that a plane cut gathers by the rules.
 pub fn gathered(case: &Case) -> Vec<Segment> {
+    let case = &*as_given(case);
     let nodes: Vec<usize> = case.conn.iter().map(|&node| node as usize).collect();
     let cell = Cell {
         number: case.number,

@@ -7,6 +7,8 @@ use crate::faces::nearly_no_tolerance;
 use crate::lists;
 use crate::numbers::*;
 use crate::random::Random;
+use crate::ways::Way;
+use oracle::scaling::Exact;
 
 /// A case of this entry that is refused by no number but 6, with room that fits; of this type, if any.
 pub fn sound(random: &mut Random, entry: Entry, number: Option<u8>) -> Case {
@@ -53,6 +55,39 @@ pub fn any_case(random: &mut Random, entry: Entry) -> Case {
         list.shrink_to_fit();
     }
     case
+}
+
+/// The same in this way. A normal that is to be scaled is of any length.
+pub fn any_case_in(random: &mut Random, entry: Entry, Way { scaled, strict }: Way) -> Case {
+    let mut case = Case {
+        scaled,
+        strict,
+        ..any_case(random, entry)
+    };
+    if scaled != 0 && !random.one_in(4) {
+        of_any_length(random, &mut case.vector);
+    }
+    case
+}
+
+/// Multiplies the components by a power of two, so that the greatest that is finite gets any exponent, and some another
+/// power of two beside that.
+fn of_any_length(random: &mut Random, normal: &mut [f64]) {
+    let finite = normal.iter().filter(|x| x.is_finite());
+    let greatest = finite.fold(0.0, |most: f64, x| most.max(x.abs()));
+    let Some(greatest) = Exact::of(greatest).filter(|greatest| greatest.mantissa > 0) else {
+        return;
+    };
+    let by = random.within(0, 2097) as i32 - 1074 - greatest.power();
+    let less = random.one_in(4);
+    for x in normal {
+        let by = match less && random.one_in(2) {
+            true => by - random.within(0, 2097) as i32,
+            false => by,
+        };
+        let exact = Exact::of(*x);
+        *x = exact.map_or(*x, |exact| exact.times(by).rounded());
+    }
 }
 
 /// The refusals that an entry has, in the order in which it tests them.
@@ -276,8 +311,12 @@ pub fn spoil(random: &mut Random, case: &mut Case, refusal: u32) -> bool {
             }
         }
         6 => {
-            let nothing = random.pick(&[0.0, -0.0, 5e-324, f64::NAN]);
-            case.vector = vec![nothing; case.vector.len()];
+            if case.scaled != 0 {
+                without_direction(random, &mut case.vector);
+            } else {
+                let nothing = random.pick(&[0.0, -0.0, 5e-324, f64::NAN]);
+                case.vector = vec![nothing; case.vector.len()];
+            }
         }
         7 => return short(random, case),
         8 => {
@@ -292,6 +331,22 @@ pub fn spoil(random: &mut Random, case: &mut Case, refusal: u32) -> bool {
         _ => panic!("no refusal {refusal}"),
     }
     true
+}
+
+/// A normal that is to be scaled and cannot be: zeros, or a component that is not finite.
+fn without_direction(random: &mut Random, normal: &mut [f64]) {
+    if random.one_in(4) {
+        normal.fill_with(|| random.pick(&[0.0, -0.0]));
+        return;
+    }
+    if random.one_in(2) {
+        of_any_length(random, normal);
+    }
+    for _ in 0..random.within(1, normal.len()) {
+        let wrong = random.pick(&[f64::NAN, f64::INFINITY, f64::NEG_INFINITY]);
+        let at = random.within(0, normal.len() - 1);
+        normal[at] = wrong;
+    }
 }
 
 /// A type that the entry does not cut: one of the other width, of lower dimension, or none at all.

@@ -1,15 +1,15 @@
 //! The linked entries held against mefikit's Rust and the rules' refusals, and their counts, and the strict way, against
-//! another walk and plain counts of crossings and of comparisons.
+//! another walk and plain counts of crossings and of comparisons. mefikit is handed a scaled normal by the plain model.
 
-use crate::answers::{answer, kept_corners};
+use crate::answers::{answer, as_given, kept_corners};
 use crate::comparisons::{of_segments, stitched, Welding, Weldings};
-use crate::cuts::{any_case, corner, refusals, sound, spoil};
+use crate::cuts::{any_case_in, corner, refusals, sound, spoil};
 use crate::defaulted::{of_case, Crossings, Cuts};
 use crate::entries::{Case, Cut, Entry, Lent, Told};
 use crate::numbers::{agree, alike, same, untouched, UNTOUCHED};
 use crate::random::Random;
 use crate::stitching::loops_are;
-use crate::ways::{of_walks, Repeated, Repeats};
+use crate::ways::{of_walks, Repeated, Repeats, Way};
 use crate::{ByType, Found};
 use oracle::by_rules::reach::{dot, unit};
 use oracle::walks::{Edges, Walked};
@@ -59,6 +59,7 @@ pub fn judge(case: &Case, cut: Cut, buffers: &mut Buffers) -> Result<Right, Stri
         },
     );
     let wrong = |what: &str| Err(format!("{what} ({told:?}): {}", case.told()));
+    let case = &*as_given(case);
     let rules = answer(case, Build::ByRules);
     if told.refusal != rules.told.refusal {
         return wrong(&format!("the refusal is not {}", rules.told.refusal));
@@ -230,9 +231,10 @@ impl Reached {
             if gives(case, told) {
                 self.giving.count(case.number);
             }
+            let given = &*as_given(case);
             let plane_cut = case.entry == Entry::Plane && told.refusal == 0;
-            if plane_cut && told.listed == 0 && crossed(case) {
-                self.unlisted.count(case);
+            if plane_cut && told.listed == 0 && crossed(given) {
+                self.unlisted.count(given);
             }
         }
         self.found
@@ -261,15 +263,11 @@ fn crossed(case: &Case) -> bool {
     heights.iter().any(|&h| h > case.tol) && heights.iter().any(|&h| h < -case.tol)
 }
 
-/// Holds an entry against mefikit's on random cases, with these values of `strict` in turn.
-pub fn compare(entry: Entry, cases: u64, ways: &[u8], cut: Cut) -> Reached {
+/// Holds an entry against mefikit's on random cases, in these ways in turn.
+pub fn compare(entry: Entry, cases: u64, ways: &[Way], cut: Cut) -> Reached {
     let mut random = Random::new(0x9ae1_6a3b_2f90_404f + entry as u64);
-    let strict = ways.iter().cycle();
-    let case = |&strict| Case {
-        strict,
-        ..any_case(&mut random, entry)
-    };
-    compare_each(strict.take(cases as usize).map(case), cut)
+    let case = |&way| any_case_in(&mut random, entry, way);
+    compare_each(ways.iter().cycle().take(cases as usize).map(case), cut)
 }
 
 /// The same on these cases.
@@ -283,17 +281,18 @@ pub fn compare_each(cases: impl Iterator<Item = Case>, cut: Cut) -> Reached {
 }
 
 /// Holds an entry against the rules' order of refusals: for each type, cells with each set of conditions
-/// together, `turns` times with each of these values of `strict`. The first of the set must be told. Counted as giving: all
+/// together, `turns` times in each of these ways. The first of the set must be told. Counted as giving: all
 /// that are refused.
-pub fn compare_refusals(entry: Entry, turns: u64, ways: &[u8], cut: Cut) -> Found {
+pub fn compare_refusals(entry: Entry, turns: u64, ways: &[Way], cut: Cut) -> Found {
     let mut random = Random::new(0xc949_d7c7_509e_6557 + entry as u64);
     let mut buffers = Buffers::default();
     let mut found = Found::default();
     let order = refusals(entry);
     for number in entry.types() {
         for set in 0u32..1 << order.len() {
-            for &strict in (0..turns).flat_map(|_| ways) {
+            for &Way { scaled, strict } in (0..turns).flat_map(|_| ways) {
                 let mut case = Case {
+                    scaled,
                     strict,
                     ..sound(&mut random, entry, Some(number))
                 };

@@ -1,6 +1,7 @@
 //! The crossings in the middle by default, counted once more from the rules' words and by why they are; and how many cuts
 //! of a run have some.
 
+use crate::answers::as_given;
 use crate::entries::{Case, Entry};
 use oracle::by_rules::reach::{line_normal, line_vectors, plane_cut, plane_vectors, unit};
 
@@ -85,6 +86,7 @@ pub fn of_polygon<const D: usize>(
 
 /// Those of a case that is not refused.
 pub fn of_case(case: &Case) -> Crossings {
+    let case = &*as_given(case);
     match case.entry {
         Entry::Plane | Entry::Gather => of_faces(case, &plane_vectors(&array(&case.vector))[0]),
         Entry::LineInSpace => of_line(case),

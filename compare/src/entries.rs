@@ -48,6 +48,14 @@ impl Entry {
         }
     }
 
+    /// Whether the entry takes a normal, which can be scaled.
+    pub fn takes_normal(self) -> bool {
+        matches!(
+            self,
+            Entry::Plane | Entry::Gather | Entry::PlaneCellByNormal
+        )
+    }
+
     /// The type numbers that the entry cuts.
     pub fn types(self) -> std::ops::RangeInclusive<u8> {
         match self {
@@ -68,6 +76,8 @@ pub struct Case {
     /// The normal or the direction.
     pub vector: Vec<f64>,
     pub segments: Vec<f64>,
+    /// How a normal is taken: 0 is as it is given, anything else scaled.
+    pub scaled: u8,
     /// The way of a plane cut and of stitching: 0 is the usual one, anything else the strict one.
     pub strict: u8,
     pub tol: f64,
@@ -86,6 +96,7 @@ impl Case {
             origin: Vec::new(),
             vector: Vec::new(),
             segments: Vec::new(),
+            scaled: 0,
             strict: 0,
             tol: 0.0,
             lent: [0; 3],
@@ -103,7 +114,7 @@ impl Case {
         };
         format!(
             "{:?}, type {}, nodes {:?}, coordinates {}, origin {}, vector {}, segments {}, \
-             strict {}, tol {:016x} ({:e}), lent {:?}; origin {:?}, vector {:?}, first coordinates {:?}",
+             scaled {}, strict {}, tol {:016x} ({:e}), lent {:?}; origin {:?}, vector {:?}, first coordinates {:?}",
             self.entry,
             self.number,
             self.conn,
@@ -111,6 +122,7 @@ impl Case {
             bits(&self.origin),
             bits(&self.vector),
             bits(&self.segments),
+            self.scaled,
             self.strict,
             self.tol.to_bits(),
             self.tol,
@@ -152,13 +164,13 @@ pub struct Lent<'a> {
 /// Answers a case in these buffers.
 pub type Cut = fn(&Case, Lent) -> Told;
 
-/// The entry, called by the Rust crate's functions over lent buffers; where `strict` is neither 0 nor 1, which they do not hand
-/// over, as C calls it.
+/// The entry, called by the Rust crate's functions over lent buffers; where `scaled` or `strict` is neither 0 nor 1, which they do
+/// not hand over, as C calls it.
 pub fn ours(case: &Case, lent: Lent) -> Told {
     let (number, conn, coords) = (case.number, &case.conn, &case.coords);
     let (origin, vector, tol) = (&case.origin, &case.vector, case.tol);
-    let strict = case.strict != 0;
-    if case.strict > 1 {
+    let (scaled, strict) = (case.scaled != 0, case.strict != 0);
+    if case.scaled > 1 || case.strict > 1 {
         return by_c(case, lent);
     }
     let Lent {
@@ -175,19 +187,21 @@ pub fn ours(case: &Case, lent: Lent) -> Told {
         Entry::Plane => {
             let into = into(numbers, nodes, ends);
             section(cut_by_plane(
-                number, conn, coords, origin, vector, strict, tol, into,
+                number, conn, coords, origin, vector, scaled, strict, tol, into,
             ))
         }
         Entry::Stitch => {
             let into = into(numbers, nodes, ends);
             section(stitch(&case.segments, strict, tol, into))
         }
-        Entry::Gather => segments(gather(number, conn, coords, origin, vector, tol, numbers)),
+        Entry::Gather => segments(gather(
+            number, conn, coords, origin, vector, scaled, tol, numbers,
+        )),
         Entry::LineInSpace => segments(cut_by_line(
             number, conn, coords, origin, vector, tol, numbers,
         )),
         Entry::PlaneCellByNormal => segments(cut_plane_cell_by_normal(
-            number, conn, coords, origin, vector, tol, numbers,
+            number, conn, coords, origin, vector, scaled, tol, numbers,
         )),
         Entry::PlaneCellByDirection => segments(cut_plane_cell_by_direction(
             number, conn, coords, origin, vector, tol, numbers,
@@ -197,11 +211,20 @@ pub fn ours(case: &Case, lent: Lent) -> Told {
     }
 }
 
-/// The plane cut and stitching as C calls them.
+/// The entries that have two ways of some kind as C calls them.
 pub fn by_c(case: &Case, lent: Lent) -> Told {
     let found = match case.entry {
         Entry::Plane => proved::plane(case, lent),
         Entry::Stitch => proved::stitch_alone(case, lent),
+        Entry::Gather | Entry::PlaneCellByNormal => {
+            let found = proved::segments_by_normal(case, lent);
+            return Told {
+                refusal: found.refusal,
+                points: found.segments,
+                defaulted: found.defaulted,
+                ..Told::default()
+            };
+        }
         other => panic!("{other:?} has one way"),
     };
     Told {

@@ -4,12 +4,12 @@
 
 use crate::answers::{given, room, Answer, PHED};
 use crate::comparisons::{of_segments, segments, Welding, Weldings};
-use crate::cuts::any_case;
+use crate::cuts::any_case_in;
 use crate::cutting::{compare_each, Reached};
 use crate::entries::{Case, Cut, Entry};
 use crate::numbers::{agree, same};
 use crate::random::Random;
-use crate::ways::{STRICT, USUAL};
+use crate::ways::{SCALED, SCALED_STRICT, STRICT, USUAL};
 use crate::{ByType, Found};
 use oracle::Build;
 
@@ -142,15 +142,14 @@ fn face_by_face(cell: Case, cut: Cut) -> Vec<Answer> {
     faces.into_iter().map(gather).collect()
 }
 
-/// Random plane cuts, each refusal among them, in the usual way and in the strict one in turn.
+/// Random plane cuts, each refusal among them, in the usual way and in the strict one in turn, and as often with scaled normals.
 fn plane_cuts(cases: u64) -> impl Iterator<Item = Case> {
     let mut random = Random::new(0x8f1b_bcdc_bf58_476d);
-    let ways = STRICT.iter().flat_map(|way| [way, &USUAL[0]]).cycle();
-    let case = move |&strict| Case {
-        strict,
-        ..any_case(&mut random, Entry::Plane)
-    };
-    ways.take(cases as usize).map(case)
+    let strict = STRICT.iter().zip(SCALED_STRICT);
+    let usual = USUAL.iter().cycle().zip(SCALED);
+    let ways = strict.zip(usual).flat_map(|((a, b), (c, d))| [a, b, c, d]);
+    let case = move |&way| any_case_in(&mut random, Entry::Plane, way);
+    ways.cycle().take(cases as usize).map(case)
 }
 
 /// Holds the gathering of random plane cuts against mefikit's Rust.
@@ -246,7 +245,7 @@ mod tests {
     fn each_build_gathers_alike() {
         let mut random = Random::new(1);
         for _ in 0..3_000 {
-            let case = any_case(&mut random, Entry::Gather);
+            let case = any_case_in(&mut random, Entry::Gather, SCALED[0]);
             let [mut rust, counted, cosine, rules] = BUILDS.map(|build| answer(&case, build));
             assert_eq!(rust.told.defaulted, 0);
             rust.told.defaulted = rules.told.defaulted;

@@ -23,6 +23,8 @@ pub mod random;
 pub mod recorded;
 pub mod roots;
 #[cfg(feature = "mefikit")]
+pub mod scaling;
+#[cfg(feature = "mefikit")]
 pub mod segments;
 #[cfg(feature = "mefikit")]
 pub mod stitching;

@@ -1,10 +1,10 @@
 //! The proved functions that are linked: those of Cicelybeam's interface, and those that crates/trial
 //! makes callable for tests.
 
-use crate::entries::{Case, Lent};
+use crate::entries::{Case, Entry, Lent};
 
 mod linked {
-    use super::{Clipped, Section, Stitched};
+    use super::{Clipped, Line, Section, Stitched};
 
     extern "C" {
         pub fn cicelybeam_plane(
@@ -17,6 +17,7 @@ mod linked {
             origin_len: usize,
             normal: *const f64,
             normal_len: usize,
+            scaled: u8,
             strict: u8,
             tol: f64,
             numbers: *mut f64,
@@ -26,6 +27,36 @@ mod linked {
             ends: *mut u32,
             ends_len: usize,
         ) -> Section;
+        pub fn cicelybeam_gather(
+            number: u8,
+            conn: *const u64,
+            conn_len: usize,
+            coords: *const f64,
+            coords_len: usize,
+            origin: *const f64,
+            origin_len: usize,
+            normal: *const f64,
+            normal_len: usize,
+            scaled: u8,
+            tol: f64,
+            numbers: *mut f64,
+            numbers_len: usize,
+        ) -> Line;
+        pub fn cicelybeam_plane_cell_by_normal(
+            number: u8,
+            conn: *const u64,
+            conn_len: usize,
+            coords: *const f64,
+            coords_len: usize,
+            origin: *const f64,
+            origin_len: usize,
+            normal: *const f64,
+            normal_len: usize,
+            scaled: u8,
+            tol: f64,
+            numbers: *mut f64,
+            numbers_len: usize,
+        ) -> Line;
         pub fn cicelybeam_stitch(
             segments: *const f64,
             segments_len: usize,
@@ -100,6 +131,18 @@ mod linked {
             out: *mut f64,
             out_len: usize,
         ) -> usize;
+        pub fn trial_scaled_in_space(
+            normal: *const f64,
+            normal_len: usize,
+            out: *mut f64,
+            out_len: usize,
+        ) -> usize;
+        pub fn trial_scaled_in_plane(
+            normal: *const f64,
+            normal_len: usize,
+            out: *mut f64,
+            out_len: usize,
+        ) -> usize;
         pub fn trial_line_normal(x: f64, y: f64, out: *mut f64, out_len: usize) -> usize;
         pub fn trial_line_normal_along(x: f64, y: f64, out: *mut f64, out_len: usize) -> usize;
     }
@@ -147,6 +190,7 @@ pub fn plane(case: &Case, lent: Lent) -> Section {
             origin.len(),
             normal.as_ptr(),
             normal.len(),
+            case.scaled,
             case.strict,
             case.tol,
             lent.numbers.as_mut_ptr(),
@@ -155,6 +199,42 @@ pub fn plane(case: &Case, lent: Lent) -> Section {
             lent.nodes.len(),
             lent.ends.as_mut_ptr(),
             lent.ends.len(),
+        )
+    }
+}
+
+/// What the functions tell that write segments, as C has it.
+#[repr(C)]
+#[derive(Clone, Copy, Debug)]
+pub struct Line {
+    pub refusal: u32,
+    pub segments: u32,
+    pub defaulted: u32,
+}
+
+/// The gathering of a case, or its plane cell by normal.
+pub fn segments_by_normal(case: &Case, lent: Lent) -> Line {
+    let [coords, origin, normal] = [&case.coords, &case.origin, &case.vector];
+    let give = match case.entry {
+        Entry::Gather => linked::cicelybeam_gather,
+        Entry::PlaneCellByNormal => linked::cicelybeam_plane_cell_by_normal,
+        other => panic!("{other:?} gives no segments by a normal"),
+    };
+    unsafe {
+        give(
+            case.number,
+            case.conn.as_ptr(),
+            case.conn.len(),
+            coords.as_ptr(),
+            coords.len(),
+            origin.as_ptr(),
+            origin.len(),
+            normal.as_ptr(),
+            normal.len(),
+            case.scaled,
+            case.tol,
+            lent.numbers.as_mut_ptr(),
+            lent.numbers.len(),
         )
     }
 }
@@ -304,6 +384,16 @@ pub fn deproject(p: &[f64; 2], origin: &[f64; 3], u: &[f64; 3], v: &[f64; 3]) ->
         unsafe { linked::trial_deproject(rows.as_ptr(), 9, p[0], p[1], out.as_mut_ptr(), 3) };
     assert!(found(told));
     out
+}
+
+/// A normal scaled, written to `out`: 1, 0 if a component is not finite, or [`REFUSED`]. The width is 2 or 3.
+pub fn scaled<const D: usize>(normal: &[f64], out: &mut [f64]) -> usize {
+    let scale = match D {
+        2 => linked::trial_scaled_in_plane,
+        3 => linked::trial_scaled_in_space,
+        _ => panic!("no width {D}"),
+    };
+    unsafe { scale(normal.as_ptr(), normal.len(), out.as_mut_ptr(), out.len()) }
 }
 
 /// The unit normal of a line in the plane, given a normal.

@@ -6,6 +6,7 @@
 //! | words | what |
 //! |---|---|
 //! | 1 | the entry: 1 plane, 2 line in space, 3 plane cell by normal, 4 by direction, 5 stitching, 6 tolerance in space, 7 tolerance in the plane, 8 square root, 9 gathering |
+//! | 1 | scaled, of entries 1, 3 and 9, from 0 to 255: 0 is a normal as it is given, anything else a scaled one |
 //! | 1 | strict, of entries 1 and 5, from 0 to 255: 0 is the usual way, anything else the strict one |
 //! | 1 | the type number |
 //! | 1 | the tolerance, in bits; for entry 8 the number whose root is taken |
@@ -54,6 +55,7 @@ fn expected_bits(x: f64) -> u64 {
 pub fn words(case: &Case, answer: &Answer) -> Vec<u64> {
     let mut words = vec![
         case.entry as u64,
+        u64::from(case.scaled),
         u64::from(case.strict),
         u64::from(case.number),
         bits(case.tol),
@@ -154,7 +156,7 @@ mod tests {
         assert_eq!(words[1 + NAME / 8..], expected);
         let told = [11, 0, 0, 0, 0, 0, 0, 0, 0, 0, 0, 0];
         let root = [(-0.0f64).to_bits()];
-        let given = [8, 0, 0, 4.0f64.to_bits(), 0, 0, 0, 0, 0, 0, 0];
+        let given = [8, 0, 0, 0, 4.0f64.to_bits(), 0, 0, 0, 0, 0, 0, 0];
         assert_eq!(record, [&given[..], &root, &told, &[0, 0, 0]].concat());
     }
 
@@ -201,15 +203,16 @@ mod tests {
     }
 
     #[test]
-    fn the_way_stands_between_the_entry_and_the_type() {
+    fn the_ways_stand_between_the_entry_and_the_type() {
         let case = Case {
+            scaled: 254,
             strict: 255,
             number: 14,
             tol: 0.5,
             ..Case::new(Entry::Plane)
         };
         let words = words(&case, &Answer::default());
-        assert_eq!(words[..4], [1, 255, 14, 0.5f64.to_bits()]);
+        assert_eq!(words[..5], [1, 254, 255, 14, 0.5f64.to_bits()]);
     }
 
     #[test]

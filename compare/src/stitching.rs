@@ -6,7 +6,7 @@ use crate::lists::{Group, List};
 use crate::numbers::{agree, alike, same, untouched, UNTOUCHED};
 use crate::proved::{self, Stitched};
 use crate::random::Random;
-use crate::ways::{of_walks, Repeated, Repeats};
+use crate::ways::{of_walks, Repeated, Repeats, Way};
 use crate::Found;
 use oracle::walks::{repeats, Edges, Walked};
 use oracle::{Build, Section};
@@ -166,14 +166,14 @@ pub fn loops_are(nodes: &[u32], ends: &[u32], section: &Section) -> bool {
     ends.len() == section.loops.len() && same_ends && same_nodes
 }
 
-/// Holds a stitching against mefikit's and another walk on a group, with these values of `strict` in turn.
-pub fn compare(group: &Group, cases: u64, ways: &[u8], stitch: Stitch) -> Stitchings {
+/// Holds a stitching against mefikit's and another walk on a group, in these ways in turn.
+pub fn compare(group: &Group, cases: u64, ways: &[Way], stitch: Stitch) -> Stitchings {
     let mut random = Random::new(0x2127_599b_f432_5c37);
     let mut buffers = Buffers::default();
     let mut all = Stitchings::default();
     for case in 0..cases * group.1 / 1000 {
         let list = List {
-            strict: ways[case as usize % ways.len()],
+            strict: ways[case as usize % ways.len()].strict,
             ..(group.2)(&mut random)
         };
         let longer = if case % 2 == 0 {
@@ -209,7 +209,7 @@ mod tests {
     type Lent<'a> = (&'a mut [f64], &'a mut [u32], &'a mut [u32]);
 
     /// How many of a group's lists, some thousands or hundreds of them, are seen to differ, for each group but the last.
-    fn seen(ways: &[u8], stitch: Stitch) -> Vec<u64> {
+    fn seen(ways: &[Way], stitch: Stitch) -> Vec<u64> {
         let found = |group: &Group| compare(group, 2_000_000 / group.1, ways, stitch).found;
         let few = GROUPS[..MANY].iter();
         few.map(|group| found(group).differing).collect()

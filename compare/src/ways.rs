@@ -1,16 +1,31 @@
-//! The two ways of stitching, and how many lists and cuts of a run have walks that pass a point twice.
+//! The two ways of stitching and of taking a normal, and how many lists and cuts of a run have walks that pass a point twice.
 
 use crate::entries::Entry;
 use oracle::walks::{repeats, Kind, Walked};
 
-/// What is handed over as `strict` in the usual way, and in the strict one, where anything but 0 is alike.
-pub const USUAL: &[u8] = &[0];
-pub const STRICT: &[u8] = &[1, 2, 255];
+/// What is handed over as `scaled` and as `strict`.
+#[derive(Clone, Copy, Debug, PartialEq, Eq)]
+pub struct Way {
+    pub scaled: u8,
+    pub strict: u8,
+}
 
-/// The ways that an entry has: both where it stitches and tells what it stitched.
-pub fn ways(entry: Entry) -> &'static [&'static [u8]] {
+const fn way(scaled: u8, strict: u8) -> Way {
+    Way { scaled, strict }
+}
+
+/// The usual way, the strict one, and both with scaled normals, where anything but 0 is alike.
+pub const USUAL: &[Way] = &[way(0, 0)];
+pub const STRICT: &[Way] = &[way(0, 1), way(0, 2), way(0, 255)];
+pub const SCALED: &[Way] = &[way(1, 0), way(2, 0), way(255, 0)];
+pub const SCALED_STRICT: &[Way] = &[way(1, 1), way(2, 255), way(255, 2)];
+
+/// The ways that an entry has: the strict one where it stitches and tells what it stitched, scaled normals where it takes one.
+pub fn ways(entry: Entry) -> &'static [&'static [Way]] {
     match entry {
-        Entry::Plane | Entry::Stitch => &[USUAL, STRICT],
+        Entry::Plane => &[USUAL, STRICT, SCALED, SCALED_STRICT],
+        Entry::Stitch => &[USUAL, STRICT],
+        Entry::Gather | Entry::PlaneCellByNormal => &[USUAL, SCALED],
         _ => &[USUAL],
     }
 }

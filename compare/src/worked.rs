@@ -1,5 +1,5 @@
 //! The rules' worked cases, each with the answer told there, written from its words; and cases of crossings in the middle by
-//! default, of comparisons of points and of the strict way, worked by hand. The comparisons of all cases are worked by hand.
+//! default, of comparisons of points, of the strict way and of the scaled one, worked by hand. The comparisons of all cases are worked by hand.
 //!
 //! Case 12, two square roots, is no case of an entry that compares with the Rust: it stands in `roots`.
 
@@ -74,6 +74,15 @@ pub const STRICT: [&str; 9] = [
     "refusals",
 ];
 
+/// What the cases of the scaled way are about. They are numbered on from the last of `STRICT`. The first three are case 19 of
+/// docs/RULES.md.
+pub const SCALED: [&str; 4] = [
+    "brick at x = 0.5, normals from 2^-1074 to the largest",
+    "zeros, NaN, infinities",
+    "a component that becomes subnormal, rounded once",
+    "6 after 1 to 5 and before 7",
+];
+
 /// 2^-1074 and 2^-1022.
 const LEAST: f64 = f64::from_bits(1);
 const LEAST_NORMAL: f64 = f64::MIN_POSITIVE;
@@ -101,13 +110,15 @@ pub fn worked() -> Vec<Worked> {
     all.extend(by_default());
     all.extend(of_comparisons());
     all.extend(of_the_strict_way());
+    all.extend(of_the_scaled_way());
     for one in &mut all {
         one.case.lent = room(&one.case);
     }
     all
 }
 
-/// Each case as it is and with room to spare, and refused where a buffer is too short by one.
+/// Each case as it is and with room to spare, and refused where a buffer is too short by one; a scaled normal that is refused also in
+/// short buffers.
 pub fn worked_in_all_buffers() -> Vec<Worked> {
     worked().iter().flat_map(in_all_buffers).collect()
 }
@@ -122,6 +133,11 @@ fn in_all_buffers(one: &Worked) -> Vec<Worked> {
             short.answer = refused(7);
             all.push(short);
         }
+    }
+    if one.answer.told.refusal == 6 && one.case.scaled != 0 {
+        let mut short = one.clone();
+        short.case.lent = one.case.lent.map(|n| n.saturating_sub(1));
+        all.push(short);
     }
     all
 }
@@ -544,6 +560,115 @@ fn in_way(strict: u8, case: Case) -> Case {
     Case { strict, ..case }
 }
 
+fn of_the_scaled_way() -> Vec<Worked> {
+    let first = NAMES.len() + BY_DEFAULT.len() + COMPARISONS.len() + STRICT.len();
+    let mut all = across_x(first + 1);
+    all.extend(without_direction(first + 2));
+    all.extend(rounded_once(first + 3));
+    all.extend(not_finite_in_its_place(first + 4));
+    all
+}
+
+fn scaled(case: Case) -> Case {
+    Case { scaled: 1, ..case }
+}
+
+/// The square of y and z, from the faces at the sides. For 2 and 255 as for 1.
+fn across_x(number: usize) -> Vec<Worked> {
+    let [a, b, c, d] = [[0.0, 0.0], [1.0, 0.0], [1.0, 1.0], [0.0, 1.0]];
+    let square = section(&[a, b, c, d], &[&[0, 1, 2, 3]], [4, 4, 0, 0]);
+    let square = comparing(sum(&[0, 1, 2, 3, 4, 1, 2, 3]), square);
+    let sides = segments([a, b, c, d, d, a, b, c].as_flattened(), 4);
+    let across =
+        |x| [Entry::Plane, Entry::Gather].map(|of| brick(of, [0.5, 0.0, 0.0], [x, 0.0, 0.0]));
+    let answers = || [square.clone(), sides.clone()];
+    let with = |case: Case, answer| is(number, case, answer);
+    let mut all = Vec::new();
+    for x in [1.0, 1e200, f64::MAX, LEAST_NORMAL, LEAST] {
+        let pairs = across(x).into_iter().zip(answers());
+        all.extend(pairs.map(|(case, answer)| with(scaled(case), answer)));
+    }
+    for scaled in [2, 255] {
+        let pairs = across(LEAST).into_iter().zip(answers());
+        all.extend(pairs.map(|(case, answer)| with(Case { scaled, ..case }, answer)));
+    }
+    // in the strict way too, and as it is given
+    let [case, _] = across(1e200);
+    all.push(with(in_way(1, scaled(case.clone())), square.clone()));
+    all.push(with(case, none()));
+    all
+}
+
+/// In each place; as it is given, an infinite normal of a line in the plane gives no segment.
+fn without_direction(number: usize) -> Vec<Worked> {
+    let mut all = Vec::new();
+    for x in [0.0, -0.0] {
+        let space = [Entry::Plane, Entry::Gather].map(|of| brick(of, MIDDLE, [x; 3]));
+        all.extend(space.map(|case| is(number, scaled(case), refused(6))));
+    }
+    for x in [f64::NAN, f64::INFINITY, f64::NEG_INFINITY] {
+        for at in 0..3 {
+            let mut normal = [1.0; 3];
+            normal[at] = x;
+            let space = [Entry::Plane, Entry::Gather].map(|of| brick(of, MIDDLE, normal));
+            all.extend(space.map(|case| is(number, scaled(case), refused(6))));
+        }
+    }
+    let normals = [
+        [0.0; 2],
+        [f64::NAN, 1.0],
+        [0.0, f64::NEG_INFINITY],
+        [f64::INFINITY, 0.0],
+    ];
+    let square = |normal: [f64; 2]| Case {
+        vector: normal.to_vec(),
+        ..square(Entry::PlaneCellByNormal)
+    };
+    all.extend(normals.map(|normal| is(number, scaled(square(normal)), refused(6))));
+    all.push(is(number, square(normals[3]), none()));
+    all
+}
+
+/// The triangle (0,0) (2^1000,0) (0,1) by the line through (0,0) with the normal (x, 2^1023), which is scaled by 2^-1023. Half of 2^-1074
+/// gives 0, so that the corner (2^1000,0) is on the line; a little more gives 2^-1074, and its distance is 2^-74.
+fn rounded_once(number: usize) -> Vec<Worked> {
+    let half = 2f64.powi(-52);
+    let long = 2f64.powi(1000);
+    let on = segments(&[0.0, 0.0, long, 0.0], 1);
+    let cut = |x| {
+        let coords = [0.0, 0.0, long, 0.0, 0.0, 1.0];
+        let normal = [x, 2f64.powi(1023)];
+        scaled(cell(
+            Entry::PlaneCellByNormal,
+            5,
+            &coords,
+            &[0.0; 2],
+            &normal,
+        ))
+    };
+    vec![
+        is(number, cut(half), on.clone()),
+        is(number, cut(-half), on.clone()),
+        is(number, cut(half.next_down()), on),
+        is(number, cut(half.next_up()), none()),
+        is(number, cut(2.0 * half), none()),
+    ]
+}
+
+/// Each other thing wrong beside a component that is not finite, and each buffer too short.
+fn not_finite_in_its_place(number: usize) -> Vec<Worked> {
+    let [others @ .., _, _] = refused_cases();
+    let mut all = Vec::new();
+    for x in [f64::NAN, f64::INFINITY] {
+        let spoilt = |(case, refusal): (Case, u32)| {
+            let vector = vec![0.0, x, 0.0];
+            is(number, scaled(Case { vector, ..case }), refused(refusal))
+        };
+        all.extend(others.clone().map(spoilt));
+    }
+    all
+}
+
 /// Cases that are refused with 1 to 6 and with 8.
 fn refused_cases() -> [(Case, u32); 7] {
     let half = [0.0, 0.0, 0.5];
@@ -681,11 +806,11 @@ fn section(points: &[[f64; 2]], loops: &[&[u32]], counts: [u32; 4]) -> Answer {
 }
 
 /// No points, or no segments.
-fn none() -> Answer {
+pub fn none() -> Answer {
     Answer::default()
 }
 
-fn refused(refusal: u32) -> Answer {
+pub fn refused(refusal: u32) -> Answer {
     let told = Told {
         refusal,
         ..Told::default()

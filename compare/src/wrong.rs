@@ -3,7 +3,7 @@
 use crate::answers::{answer, room, Answer};
 use crate::entries::{Case, Entry};
 use crate::recorded::{root_words, words};
-use crate::worked::{brick, square, touching};
+use crate::worked::{brick, none, refused, square, touching};
 use oracle::Build;
 
 /// What is made wrong in an answer.
@@ -39,6 +39,30 @@ const OF_THE_STRICT_WAY: [Spoil; 3] = [
     },
 ];
 
+/// Cases of the scaled way: the empty answer that the normal gives as it is given; an answer where a component is not finite or all are
+/// zero; and the refusal of a normal that has no unit as it is given.
+fn of_the_scaled_way() -> Vec<(Case, Spoil)> {
+    let along = |entry, x| brick(entry, [0.5; 3], [x, 0.0, 0.0]);
+    let in_plane = Case {
+        vector: vec![f64::INFINITY, 0.0],
+        ..square(Entry::PlaneCellByNormal)
+    };
+    let empty: Spoil = |a| *a = none();
+    let six: Spoil = |a| *a = refused(6);
+    let least = f64::from_bits(1);
+    let cases = [
+        (along(Entry::Plane, 1e200), empty),
+        (along(Entry::Gather, 1e200), empty),
+        (along(Entry::Plane, f64::NAN), empty),
+        (along(Entry::Gather, 0.0), empty),
+        (in_plane, empty),
+        (along(Entry::Plane, least), six),
+        (along(Entry::Gather, least), six),
+    ];
+    let scaled = |(case, spoil)| (Case { scaled: 1, ..case }, spoil);
+    cases.map(scaled).to_vec()
+}
+
 /// Each thing that is compared.
 const THINGS: [Spoil; 20] = [
     |a| a.told.refusal += 1,
@@ -66,8 +90,8 @@ const THINGS: [Spoil; 20] = [
     |a| a.ends.clear(),
 ];
 
-/// Records of the brick's section with each thing wrong, of a section with a pinched walk, and of every other entry with each
-/// number of the answer wrong.
+/// Records of the brick's section with each thing wrong, of a section with a pinched walk, of every other entry with each
+/// number of the answer wrong, and of scaled normals.
 pub fn wrong() -> Vec<Vec<u64>> {
     let up = [0.0, 0.0, 1.0];
     let section = brick(Entry::Plane, [0.0, 0.0, 0.5], up);
@@ -107,6 +131,11 @@ pub fn wrong() -> Vec<Vec<u64>> {
         all.extend(lines.iter().map(|case| spoilt(case, thing)));
     }
     all.extend(others.iter().map(|(case, thing)| spoilt(case, *thing)));
+    all.extend(
+        of_the_scaled_way()
+            .iter()
+            .map(|(case, thing)| spoilt(case, *thing)),
+    );
     all.push(root_words(4.0, -2.0));
     all
 }

@@ -65,7 +65,7 @@ impl Exact {
         (left > 0).then(|| (2 * left).cmp(&(1 << below)))
     }
 
-    /// Rounded once: to the nearest f64, of two the one with an even mantissa. Its absolute value is under 2.
+    /// Rounded once: to the nearest f64, of two the one with an even mantissa. Its absolute value is under 2^1024.
     pub fn rounded(self) -> f64 {
         let below = UNIT - self.exponent;
         let bits = if self.mantissa == 0 {

@@ -1,10 +1,10 @@
 //! Holds the entries of Cicelybeam's interface against mefikit's Rust and the rules' refusals, but gathering, which
 //! `gathering` does. The number is that of plane cuts in each way; every other entry has a quarter of it. The strict way is held
-//! against another walk.
+//! against another walk, and mefikit is handed a scaled normal by the plain model.
 
 use compare::cutting::{compare, compare_refusals, Reached};
 use compare::entries::{ours, Entry};
-use compare::ways::{STRICT, USUAL};
+use compare::ways::{Way, SCALED, SCALED_STRICT, STRICT, USUAL};
 use compare::{cases_asked, refused_by};
 use std::process::ExitCode;
 use std::time::Instant;
@@ -14,11 +14,18 @@ const FULL: u64 = 400_000;
 /// How often each set of refusals is made for each type.
 const TURNS: u64 = 4;
 
-const ENTRIES: [(Entry, &[u8], &str); 9] = [
+const ENTRIES: [(Entry, &[Way], &str); 12] = [
     (Entry::Plane, USUAL, "space cells cut by a plane"),
     (Entry::Plane, STRICT, "the same in the strict way"),
+    (Entry::Plane, SCALED, "the same by scaled normals"),
+    (Entry::Plane, SCALED_STRICT, "the same by these, strict"),
     (Entry::LineInSpace, USUAL, "space cells cut by a line"),
     (Entry::PlaneCellByNormal, USUAL, "plane cells cut by normal"),
+    (
+        Entry::PlaneCellByNormal,
+        SCALED,
+        "the same by scaled normals",
+    ),
     (
         Entry::PlaneCellByDirection,
         USUAL,

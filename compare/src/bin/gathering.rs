@@ -1,9 +1,9 @@
 //! Holds gathering against mefikit's Rust and the rules' refusals, and on the same cells gathering, then stitching,
-//! against the plane cut, in the usual way and in the strict one in turn. The number is that of cells.
+//! against the plane cut, in the usual way and in the strict one in turn, by normals as they are given and scaled. The number is that of cells.
 
 use compare::cutting::compare_refusals;
 use compare::entries::{ours, Entry};
-use compare::ways::USUAL;
+use compare::ways::{SCALED, USUAL};
 use compare::{cases_asked, gathering, refused_by};
 use std::process::ExitCode;
 use std::time::Instant;
@@ -25,8 +25,15 @@ fn main() -> ExitCode {
     line(refused_by(&reached.refused));
     reached.cuts.print();
     println!("each set of refusals for each type, of which the first must be told:");
-    let refusals = compare_refusals(Entry::Gather, TURNS, USUAL, ours);
-    refusals.print("space cells gathered", "are refused");
+    let mut differing = 0;
+    for (ways, name) in [
+        (USUAL, "space cells gathered"),
+        (SCALED, "the same by scaled normals"),
+    ] {
+        let refusals = compare_refusals(Entry::Gather, TURNS, ways, ours);
+        refusals.print(name, "are refused");
+        differing += refusals.differing;
+    }
     println!("gathered and stitched beside the plane cut, and cells beside their faces, to the bit, NaN alike:");
     let gathered = gathering::compare(cases, ours);
     gathered
@@ -39,7 +46,7 @@ fn main() -> ExitCode {
         gathered.segments, gathered.faces, gathered.defaulted, gathered.pinched
     ));
     gathered.weldings.print();
-    let differing = reached.found.differing + refusals.differing + gathered.found.differing;
+    differing += reached.found.differing + gathered.found.differing;
     println!(
         "{:.1} seconds, {differing} differ",
         start.elapsed().as_secs_f64()

@@ -1,17 +1,17 @@
 //! Writes what crates/replay reads: the rules' worked cases with the answers told there, what the Rust
-//! answers to some thousands of cases, refusals among them, and in the strict way the Rust and another walk; the machine's
-//! square roots; and answers with one thing wrong. The format stands in compare/src/recorded.rs. Right answers are held against the linked entries first.
+//! answers to some thousands of cases, refusals among them, and in the strict way the Rust and another walk, by a scaled normal the
+//! Rust by that of the plain model; the machine's square roots; and answers with one thing wrong. The format stands in compare/src/recorded.rs. Right answers are held against the linked entries first.
 
 use compare::answers::{answer, given, Answer};
-use compare::cuts::{any_case, refusals, sound, spoil};
+use compare::cuts::{any_case_in, refusals, sound, spoil};
 use compare::entries::{ours, Case, Entry};
 use compare::numbers::alike;
 use compare::random::Random;
 use compare::recorded::{file, root_words, words, Group};
 use compare::roots::{sample, GROUPS};
-use compare::ways::{self, USUAL};
+use compare::ways::{self, Way, USUAL};
 use compare::worked::{roots, worked_in_all_buffers, Worked};
-use compare::worked::{BY_DEFAULT, COMPARISONS, NAMES, STRICT};
+use compare::worked::{BY_DEFAULT, COMPARISONS, NAMES, SCALED, STRICT};
 use compare::wrong::wrong;
 use oracle::Build;
 use std::process::ExitCode;
@@ -34,6 +34,13 @@ const STRICT_SHARES: [(Entry, &str, usize); 2] = [
     (Entry::Stitch, "stitching alone", 400),
 ];
 
+/// The same of those that take a normal, scaled.
+const SCALED_SHARES: [(Entry, &str, usize); 3] = [
+    (Entry::Plane, "plane cut", 600),
+    (Entry::Gather, "gathering", 200),
+    (Entry::PlaneCellByNormal, "plane cell by normal", 300),
+];
+
 /// How many square roots each group of patterns has.
 const ROOTS: [usize; 6] = [800, 1000, 800, 700, 776, 20];
 
@@ -53,6 +60,7 @@ fn main() -> ExitCode {
     let mut right = cases_worked();
     right.extend(SHARES.map(|(entry, name, share)| cases_of(entry, name, share)));
     right.extend(STRICT_SHARES.map(|(entry, name, share)| strict_cases_of(entry, name, share)));
+    right.extend(SCALED_SHARES.map(|(entry, name, share)| scaled_cases_of(entry, name, share)));
     let differing: usize = right.iter().map(|(_, cases)| differing(cases)).sum();
     let mut groups: Vec<Group> = right
         .iter()
@@ -80,8 +88,8 @@ fn main() -> ExitCode {
     ExitCode::from(u8::from(differing > 0))
 }
 
-/// The worked cases by their number, and those of crossings in the middle by default, of comparisons of points and of the strict
-/// way by their name. Case 12, two square roots, has none here.
+/// The worked cases by their number, and those of crossings in the middle by default, of comparisons of points, of the strict
+/// way and of the scaled one by their name. Case 12, two square roots, has none here.
 fn cases_worked() -> Vec<(String, Vec<Right>)> {
     let all = worked_in_all_buffers();
     let of = |number| {
@@ -95,6 +103,7 @@ fn cases_worked() -> Vec<(String, Vec<Right>)> {
         ("by default", &BY_DEFAULT[..]),
         ("comparisons", &COMPARISONS),
         ("strict", &STRICT),
+        ("scaled", &SCALED),
     ] {
         let first = named.len() + 1;
         let name = |(k, name)| (format!("{about}, {name}"), of(first + k));
@@ -107,10 +116,27 @@ fn cases_worked() -> Vec<(String, Vec<Right>)> {
 fn cases_of(entry: Entry, name: &str, share: usize) -> (String, Vec<Right>) {
     let mut cases = Vec::new();
     record(entry, share, USUAL, |_| true, &mut cases);
-    record_refusals(entry, &mut cases);
-    let refused = |(_, answer): &&Right| answer.told.refusal > 0;
-    let refused = cases.iter().filter(refused).count();
+    record_refusals(entry, USUAL[0], |_| true, &mut cases);
+    let refused = refused(&cases);
     (format!("{name}, {refused} refusals"), cases)
+}
+
+/// Random cases of an entry by scaled normals, in the usual way and in the strict one, and refusals with 6, also beside another.
+fn scaled_cases_of(entry: Entry, name: &str, share: usize) -> (String, Vec<Right>) {
+    let mut cases = Vec::new();
+    let ways = match entry {
+        Entry::Plane => [ways::SCALED, ways::SCALED_STRICT].concat(),
+        _ => ways::SCALED.to_vec(),
+    };
+    record(entry, share, &ways, |_| true, &mut cases);
+    record_refusals(entry, ways[0], |pair| pair.contains(&6), &mut cases);
+    let refused = refused(&cases);
+    (format!("{name}, scaled, {refused} refusals"), cases)
+}
+
+fn refused(cases: &[Right]) -> usize {
+    let refused = |(_, answer): &&Right| answer.told.refusal > 0;
+    cases.iter().filter(refused).count()
 }
 
 /// Random cases of an entry in the strict way, a quarter of them with a pinched walk at least.
@@ -147,22 +173,19 @@ fn recorded(case: Case) -> Option<Right> {
     rust.is(&cosine, alike).then_some((case, rust))
 }
 
-/// Random cases that are not large and that are wanted, with these values of `strict` in turn.
+/// Random cases that are not large and that are wanted, in these ways in turn.
 fn record(
     entry: Entry,
     share: usize,
-    ways: &[u8],
+    ways: &[Way],
     wanted: fn(&Right) -> bool,
     cases: &mut Vec<Right>,
 ) {
     let mut random = Random::new(0x517c_c1b7_2722_0a95 + entry as u64 + cases.len() as u64);
-    let mut strict = ways.iter().cycle();
+    let mut ways = ways.iter().cycle();
     let mut found = 0;
     while found < share {
-        let case = Case {
-            strict: *strict.next().unwrap(),
-            ..any_case(&mut random, entry)
-        };
+        let case = any_case_in(&mut random, entry, *ways.next().unwrap());
         let right = recorded(case).filter(|right| within(right, MOST_WORDS));
         if let Some(right) = right.filter(wanted) {
             cases.push(right);
@@ -171,15 +194,22 @@ fn record(
     }
 }
 
-/// Each refusal, and each two of them together, for each type.
-fn record_refusals(entry: Entry, cases: &mut Vec<Right>) {
+/// Each refusal, and each two of them together, that are wanted, for each type, in this way.
+fn record_refusals(entry: Entry, way: Way, wanted: fn([u32; 2]) -> bool, cases: &mut Vec<Right>) {
     let mut random = Random::new(0x2545_f491_4f6c_dd1d + entry as u64);
     let order = refusals(entry);
     for number in entry.types() {
         for first in 0..order.len() {
             for second in first..order.len() {
+                if !wanted([order[first], order[second]]) {
+                    continue;
+                }
                 let made = std::iter::repeat_with(|| {
-                    let mut case = sound(&mut random, entry, Some(number));
+                    let mut case = Case {
+                        scaled: way.scaled,
+                        strict: way.strict,
+                        ..sound(&mut random, entry, Some(number))
+                    };
                     let spoilt = spoil(&mut random, &mut case, order[second])
                         && (first == second || spoil(&mut random, &mut case, order[first]));
                     spoilt.then(|| recorded(case)).flatten()

@@ -4,7 +4,7 @@
 use compare::cases_asked;
 use compare::lists::GROUPS;
 use compare::stitching::{compare, ours, Stitchings};
-use compare::ways::{STRICT, USUAL};
+use compare::ways::{Way, STRICT, USUAL};
 use std::process::ExitCode;
 use std::time::Instant;
 
@@ -27,8 +27,8 @@ fn main() -> ExitCode {
     ExitCode::from(u8::from(differing > 0))
 }
 
-/// Prints what the comparison found with these values of `strict`, and gives how many lists differ.
-fn of_all_groups(cases: u64, ways: &[u8]) -> u64 {
+/// Prints what the comparison found in these ways, and gives how many lists differ.
+fn of_all_groups(cases: u64, ways: &[Way]) -> u64 {
     let mut all = Stitchings::default();
     for group in &GROUPS {
         let group_found = compare(group, cases, ways, ours);

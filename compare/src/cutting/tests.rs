@@ -2,7 +2,7 @@ use super::*;
 use crate::answers::{given, room};
 use crate::comparisons::wrong::{counted, right, End, COUNTS};
 use crate::entries::{by_c, ours};
-use crate::ways::{ways, wrong::KINDS, STRICT, USUAL};
+use crate::ways::{ways, wrong::KINDS, SCALED, STRICT, USUAL};
 use crate::worked::{worked_in_all_buffers, Worked, BY_DEFAULT, COMPARISONS, NAMES};
 use oracle::walks::{Kind, Walk};
 use oracle::BUILDS;
@@ -31,7 +31,7 @@ fn seen_among(cases: u64, entries: &[Entry], cut: Cut) {
     }
 }
 
-fn seen_in(way: &[u8], entry: Entry, cases: u64, cut: Cut) {
+fn seen_in(way: &[Way], entry: Entry, cases: u64, cut: Cut) {
     let found = compare(entry, cases, way, cut).found;
     assert!(found.differing > 0, "{entry:?} {way:?}");
 }
@@ -73,9 +73,11 @@ fn the_linked_entries_are_the_rusts() {
 /// The crate's functions, which hand over 0 and 1, and C's.
 #[test]
 fn both_call_the_same() {
-    for entry in SECTIONS {
-        let found = compare(entry, 3_000, &[0, 1, 2, 255], by_c).found;
-        assert_eq!(found.differing, 0, "{:?}", found.first);
+    for entry in ENTRIES.into_iter().filter(|&entry| ways(entry).len() > 1) {
+        for way in ways(entry) {
+            let found = compare(entry, 3_000, way, by_c).found;
+            assert_eq!(found.differing, 0, "{:?}", found.first);
+        }
     }
 }
 
@@ -143,6 +145,24 @@ fn no_other_worked_case_changes() {
     assert!(sections > 100, "{sections}");
 }
 
+/// The answers by hand to normals as they are given, but for case 13, whose normals are too long or infinite.
+#[test]
+fn no_other_worked_case_changes_where_normals_are_scaled() {
+    let as_given = |one: &Worked| one.case.scaled == 0 && one.number != 13;
+    let by_normal = |one: &Worked| one.case.entry.takes_normal() && as_given(one);
+    let mut cut = 0;
+    for one in worked_in_all_buffers().into_iter().filter(by_normal) {
+        let case = Case {
+            scaled: 1,
+            ..one.case
+        };
+        let found = given(&case, ours);
+        assert!(found.is(&one.answer, alike), "case {}", one.number);
+        cut += 1;
+    }
+    assert!(cut > 100, "{cut}");
+}
+
 /// Random cases have each refusal of their entry, each type, flat and open walks, and walks that pass a point twice.
 #[test]
 fn everything_is_reached() {
@@ -155,7 +175,7 @@ fn everything_is_reached() {
     assert!(unlisted.all > 0);
 }
 
-fn reached_in(way: &[u8], entry: Entry) {
+fn reached_in(way: &[Way], entry: Entry) {
     let reached = compare(entry, 20_000, way, ours);
     for &number in refusals(entry) {
         assert!(reached.refused[number as usize] > 0, "{entry:?} {number}");
@@ -202,7 +222,7 @@ fn reached_in(way: &[u8], entry: Entry) {
             repeated.iter().all(|&many| many > 10),
             "{entry:?} {repeated:?}"
         );
-        assert_eq!(reached.edges.pinched > 0, way == STRICT);
+        assert_eq!(reached.edges.pinched > 0, way[0].strict > 0);
         let hexahedra = [14, 15].map(|number| reached.pinched.of(number));
         assert_eq!(
             hexahedra.iter().all(|&many| many > 50),
@@ -519,6 +539,24 @@ fn a_turned_loop_is_seen() {
             }
         })
     });
+}
+
+/// Scaled though it is to be taken as it is given, and the other way round.
+#[test]
+fn a_normal_taken_in_the_other_way_is_seen() {
+    let other: Cut = |case, lent| {
+        let case = Case {
+            scaled: u8::from(case.scaled == 0),
+            ..case.clone()
+        };
+        ours(&case, lent)
+    };
+    let by_normal = ENTRIES.into_iter().filter(|entry| entry.takes_normal());
+    for entry in by_normal {
+        for way in ways(entry) {
+            seen_in(way, entry, 20_000, other);
+        }
+    }
 }
 
 /// Refuses always; gives an empty section to all.
