@@ -550,19 +550,12 @@ mod tests {
         ours(&case, lent)
     }
 
-    /// Never scaled; by odd numbers alone; with an infinity as it is given; three times the model's normal.
+    /// Never scaled; by odd numbers alone; three times the model's normal.
     #[test]
     fn an_entry_that_takes_a_normal_otherwise_is_seen() {
-        let wrong: [Cut; 4] = [
+        let wrong: [Cut; 3] = [
             |case, lent| with(case, lent, |case| case.scaled = 0),
             |case, lent| with(case, lent, |case| case.scaled %= 2),
-            |case, lent| {
-                with(case, lent, |case| {
-                    if case.vector.iter().any(|x| x.is_infinite()) {
-                        case.scaled = 0;
-                    }
-                })
-            },
             |case, lent| {
                 with(case, lent, |case| {
                     if let Some(normal) = scaled(&case.vector).filter(|_| case.scaled != 0) {
@@ -577,5 +570,19 @@ mod tests {
                 assert!(found.differing > 0, "{k} {name}");
             }
         }
+    }
+
+    /// In space it has no basis either way.
+    #[test]
+    fn an_infinite_normal_of_a_line_taken_as_it_is_given_is_seen() {
+        let wrong: Cut = |case, lent| {
+            with(case, lent, |case| {
+                if case.vector.iter().any(|x| x.is_infinite()) {
+                    case.scaled = 0;
+                }
+            })
+        };
+        let found = compare_entry(Entry::PlaneCellByNormal, SCALED, 6_000, wrong).found;
+        assert!(found.differing > 0);
     }
 }

@@ -131,12 +131,12 @@ pub fn wrong() -> Vec<Vec<u64>> {
         all.extend(lines.iter().map(|case| spoilt(case, thing)));
     }
     all.extend(others.iter().map(|(case, thing)| spoilt(case, *thing)));
+    all.push(root_words(4.0, -2.0));
     all.extend(
         of_the_scaled_way()
             .iter()
             .map(|(case, thing)| spoilt(case, *thing)),
     );
-    all.push(root_words(4.0, -2.0));
     all
 }
 

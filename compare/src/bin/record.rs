@@ -45,8 +45,8 @@ const SCALED_SHARES: [(Entry, &str, usize); 3] = [
 const ROOTS: [usize; 6] = [800, 1000, 800, 700, 776, 20];
 
 /// The most words of a random case, and of one with two things wrong.
-const MOST_WORDS: usize = 204;
-const MOST_WORDS_REFUSED: usize = 404;
+const MOST_WORDS: usize = 205;
+const MOST_WORDS_REFUSED: usize = 405;
 
 /// A case and its right answer.
 type Right = (Case, Answer);
