@@ -48,13 +48,13 @@ int main(void) {
     return 1;
   struct cicelybeam_line g = cicelybeam_gather(CICELYBEAM_HEX8, conn, LENGTH(conn), coords,
                                                LENGTH(coords), origin, LENGTH(origin), normal,
-                                               LENGTH(normal), t.value, gathered, LENGTH(gathered));
+                                               LENGTH(normal), 0, t.value, gathered, LENGTH(gathered));
   if (refused(g.refusal))
     return 1;
   print_segments(g);
   struct cicelybeam_section s = cicelybeam_plane(
       CICELYBEAM_HEX8, conn, LENGTH(conn), coords, LENGTH(coords), origin, LENGTH(origin), normal,
-      LENGTH(normal), 0, t.value, numbers, LENGTH(numbers), nodes, LENGTH(nodes), ends, LENGTH(ends));
+      LENGTH(normal), 0, 0, t.value, numbers, LENGTH(numbers), nodes, LENGTH(nodes), ends, LENGTH(ends));
   if (refused(s.refusal))
     return 1;
   for (uint32_t k = 0; k < s.points; k++)

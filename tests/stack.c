@@ -14,7 +14,7 @@
 #define ENTRIES CICELYBEAM_MOST_ENTRIES
 #define SEGMENTS CICELYBEAM_MOST_SEGMENTS
 
-/* ---- Inputs; functions with a strict way are called in both */
+/* ---- Inputs; functions with a strict way are called in both, those that take a normal as it is given and scaled */
 
 static const double up[] = {0, 0, 1};
 static const double oblique[] = {0.3, 0.2, 1};
@@ -26,7 +26,7 @@ static size_t conn_len;
 static double coords[3 * ENTRIES];
 static size_t coords_len;
 static const double *vector;
-static uint8_t strict;
+static uint8_t scaled, strict;
 static double segments[4 * SEGMENTS];
 
 static double numbers[CICELYBEAM_LINE_NUMBERS(ENTRIES)];
@@ -63,13 +63,13 @@ static void run_nothing(void) {}
 static void run_sqrt(void) { cicelybeam_sqrt(2); }
 
 static void run_plane(void) {
-  refusals |= cicelybeam_plane(type, conn, conn_len, coords, coords_len, origin, 3, vector, 3, strict, 1e-12,
+  refusals |= cicelybeam_plane(type, conn, conn_len, coords, coords_len, origin, 3, vector, 3, scaled, strict, 1e-12,
                                numbers, sizeof numbers / sizeof *numbers, nodes, sizeof nodes / sizeof *nodes, ends,
                                sizeof ends / sizeof *ends).refusal;
 }
 
 static void run_gather(void) {
-  refusals |= cicelybeam_gather(type, conn, conn_len, coords, coords_len, origin, 3, vector, 3, 1e-12, numbers,
+  refusals |= cicelybeam_gather(type, conn, conn_len, coords, coords_len, origin, 3, vector, 3, scaled, 1e-12, numbers,
                                 sizeof numbers / sizeof *numbers).refusal;
 }
 
@@ -79,8 +79,8 @@ static void run_line(void) {
 }
 
 static void run_by_normal(void) {
-  refusals |= cicelybeam_plane_cell_by_normal(type, conn, conn_len, coords, coords_len, origin, 2, up + 1, 2, 1e-12,
-                                              numbers, sizeof numbers / sizeof *numbers).refusal;
+  refusals |= cicelybeam_plane_cell_by_normal(type, conn, conn_len, coords, coords_len, origin, 2, up + 1, 2, scaled,
+                                              1e-12, numbers, sizeof numbers / sizeof *numbers).refusal;
 }
 
 static void run_by_direction(void) {
@@ -188,9 +188,17 @@ int main(void) {
   strict = 1;
   print_in_space("cicelybeam_plane, strict", run_plane);
   strict = 0;
+  scaled = 1;
+  print_in_space("cicelybeam_plane, scaled", run_plane);
+  scaled = 0;
   print_in_space("cicelybeam_gather", run_gather);
+  scaled = 1;
+  print_in_space("cicelybeam_gather, scaled", run_gather);
+  scaled = 0;
   print_in_space("cicelybeam_line_in_space", run_line);
   print("cicelybeam_plane_cell_by_normal", depth_in_plane(run_by_normal));
+  scaled = 1;
+  print("cicelybeam_plane_cell_by_normal, scaled", depth_in_plane(run_by_normal));
   print("cicelybeam_plane_cell_by_direction", depth_in_plane(run_by_direction));
   print("cicelybeam_stitch", depth_of_stitching());
   strict = 1;

@@ -148,6 +148,36 @@ fn case_18_triangles_that_share_a_corner() {
 }
 
 #[test]
+fn case_19_scaled_normals() {
+    let cut = |normal: [f64; 3]| {
+        let (hex, origin) = (SpaceType::Hex8, [0.5, 0., 0.]);
+        cut_by_plane(hex, &EIGHT, &BRICK, &origin, &normal, true, false, 0.)
+    };
+    for x in [1., 1e200, f64::from_bits(1)] {
+        let section = cut([x, 0., 0.]).unwrap();
+        assert_eq!(section.points, [[0., 0.], [1., 0.], [1., 1.], [0., 1.]]);
+        assert_eq!(loops(&section), [[0, 1, 2, 3]]);
+        assert_eq!(counts(&section), [4, 4, 0, 0]);
+    }
+    for normal in [[0.; 3], [INFINITY, 0., 0.], [1., f64::NAN, 0.]] {
+        assert_eq!(cut(normal), Err(Refusal::NoDirection));
+    }
+    let long = 2f64.powi(1000);
+    let line = |normal: [f64; 2]| {
+        let (tri, coords) = (PlaneType::Tri3, [0., 0., long, 0., 0., 1.]);
+        cut_plane_cell_by_normal(tri, &[0, 1, 2], &coords, &[0.; 2], &normal, true, 0.)
+    };
+    for normal in [[0.; 2], [INFINITY, 0.], [1., f64::NAN]] {
+        assert_eq!(line(normal), Err(Refusal::NoDirection));
+    }
+    let (half, greatest) = (2f64.powi(-52), 2f64.powi(1023));
+    let on = line([half, greatest]).unwrap();
+    assert_eq!(on.segments, [[[0., 0.], [long, 0.]]]);
+    let above = line([half.next_up(), greatest]).unwrap();
+    assert!(above.segments.is_empty());
+}
+
+#[test]
 fn cases_11_and_12_tolerance_and_roots() {
     assert_eq!(tolerance_in_space(&[3., 4., 0.]), Ok(2f64.powi(-44)));
     assert_eq!(tolerance_in_plane(&[]), Ok(1e-12));

@@ -1,7 +1,8 @@
-//! What the Rust gives for the eighteen cases that docs/RULES.md works by hand, and another walk in the strict way, which the
-//! Rust has not.
+//! What the Rust gives for the nineteen cases that docs/RULES.md works by hand; and another walk in the strict way, and the Rust by
+//! the plain model's normal in the scaled way, neither of which the Rust has.
 
 use oracle::counts::{counts, listed};
+use oracle::scaling::scaled;
 use oracle::walks::Walked;
 use oracle::*;
 
@@ -24,6 +25,12 @@ fn main() {
         "The Rust has one way, the usual one. What is told of the strict way is that of another"
     );
     println!("walk, written here from the rules, which gives the Rust's loops in the usual way.");
+    println!(
+        "Nor does the Rust scale a normal. What is told of the scaled way is the Rust's answer to"
+    );
+    println!(
+        "the normal that a plain model, written here from the rules in whole numbers, has scaled."
+    );
     faces_of_phed();
     brick();
     tetrahedron();
@@ -36,6 +43,7 @@ fn main() {
     crossings_by_default();
     comparisons_of_points();
     touching_triangles();
+    scaled_normals();
 }
 
 fn faces_of_phed() {
@@ -402,6 +410,65 @@ fn touching_triangles() {
     let loops = usual.loops == [vec![4, 1, 2, 3, 1, 0], apart.clone()] && strict.loops == [apart];
     let counts = edges == [9, 9] && counted(&segments, true, 0.0) == [9, 3, 6, 0, 0];
     verdict(loops && counts && walk == -6.0 && strict.points == usual.points);
+}
+
+fn scaled_normals() {
+    heading("19. In the scaled way, the brick at x = 0.5: by the normals (1,0,0), (1e200,0,0) and (2^-1074,0,0) points (0,0) (1,0) (1,1) (0,1), loop 0 1 2 3, counts 4 4 0 0. By (0,0,0), and by a normal with a component that is infinite or NaN: 6, of a cell in the plane too. The triangle (0,0) (2^1000,0) (0,1) by the line through (0,0) with the normal (2^-52,2^1023), which becomes (0,1): (0,0)-(2^1000,0). By the next number above 2^-52 it becomes (2^-1074,1): no segments.");
+    let (tiny, infinity, nan) = (f64::from_bits(1), f64::INFINITY, f64::NAN);
+    let mut agrees = true;
+    let square = vec![[0.0, 0.0], [1.0, 0.0], [1.0, 1.0], [0.0, 1.0]];
+    let origin = [0.5, 0.0, 0.0];
+    for x in [1.0, 1e200, tiny] {
+        let normal: [f64; 3] = become_scaled(&[x, 0.0, 0.0]).unwrap();
+        let segments = plane_segments(Build::Rust, hex(), &origin, &normal, 0.0).unwrap();
+        let cut = plane_cut(Build::Rust, hex(), &origin, &normal, 0.0).unwrap();
+        let (found, edges) = stitched(&segments, 0.0);
+        agrees &= found == cut && found.points == square;
+        agrees &= found.loops == [[0, 1, 2, 3]] && edges == [4, 4];
+    }
+    let cut = |normal: [f64; 3]| {
+        let normal = become_scaled(&normal)?;
+        let section = plane_cut(Build::Rust, hex(), &origin, &normal, 0.0)?;
+        Ok(section.points.len() + section.loops.len())
+    };
+    for normal in [[0.0; 3], [infinity, 0.0, 0.0], [1.0, nan, 0.0]] {
+        agrees &= told("plane cut", cut(normal)) == Err(Stop::Norm);
+    }
+    let long = 2f64.powi(1000);
+    let triangle = Cell {
+        number: 5,
+        nodes: &[0, 1, 2],
+        coords: &[0.0, 0.0, long, 0.0, 0.0, 1.0],
+    };
+    let line = |normal: [f64; 2]| {
+        let normal = become_scaled(&normal)?;
+        plane_cell_by_normal(Build::Rust, triangle, &[0.0; 2], &normal, 0.0)
+    };
+    for normal in [[0.0; 2], [infinity, 0.0], [1.0, nan]] {
+        let found = line(normal).map(|segments| segments.len());
+        agrees &= told("plane cell by normal", found) == Err(Stop::Norm);
+    }
+    let half = 2f64.powi(-52);
+    for (x, right) in [
+        (half, vec![[[0.0, 0.0], [long, 0.0]]]),
+        (half.next_up(), vec![]),
+    ] {
+        let found = line([x, 2f64.powi(1023)]).unwrap();
+        println!("   plane cell by normal: {}", pairs(&found.concat()));
+        agrees &= found == right;
+    }
+    verdict(agrees);
+}
+
+/// Prints what the model makes of a normal. One that it does not scale, since a component is not finite, the rules refuse with 6.
+fn become_scaled<const D: usize>(normal: &[f64; D]) -> Result<[f64; D], Stop> {
+    let found = scaled(normal);
+    match &found {
+        Some(scaled) => println!("   {normal:?} becomes {scaled:?}"),
+        None => println!("   {normal:?} is not scaled"),
+    }
+    let array = |scaled: Vec<f64>| scaled.try_into().unwrap();
+    found.map(array).ok_or(Stop::Norm)
 }
 
 fn heading(text: &str) {
