@@ -53,6 +53,8 @@ pub struct Scalings {
     pub exponents: Vec<u64>,
     /// How often a component that is not finite stood in each place.
     pub places: Vec<u64>,
+    /// Those whose squares neither overflow nor underflow.
+    pub ordinary: u64,
 }
 
 impl Scalings {
@@ -62,16 +64,18 @@ impl Scalings {
             kinds: [0; KINDS.len()],
             exponents: vec![0; MANY],
             places: vec![0; width],
+            ordinary: 0,
         }
     }
 
     /// Whether each kind occurred, each exponent and each place.
     pub fn complete(&self) -> bool {
         let counts = self.kinds.iter().chain(&self.exponents);
-        counts.chain(&self.places).all(|&many| many > 0)
+        self.ordinary > 0 && counts.chain(&self.places).all(|&many| many > 0)
     }
 
     fn count(&mut self, normal: &[f64]) {
+        self.ordinary += u64::from(ordinary(normal));
         for (many, x) in self.places.iter_mut().zip(normal) {
             *many += u64::from(!x.is_finite());
         }
@@ -218,8 +222,8 @@ fn of_no_power<const D: usize>(random: &mut Random) -> [f64; D] {
 
 // ---- the scaled normal
 
-/// Holds a scaling against the model on one normal: as it is, with numbers beyond it, and in lists that are too short. Whether there is
-/// a scaled normal.
+/// Holds a scaling against the model on one normal: as it is, with numbers beyond it, and in lists that are too short. Where no square
+/// overflows or underflows its unit has to be that of the normal as it is given. Whether there is a scaled normal.
 fn judge<const D: usize>(normal: &[f64; D], scale: Scale) -> Result<bool, String> {
     let right = scaled(normal);
     let wrong = |what: &str, out: &[f64]| {
@@ -250,7 +254,26 @@ fn judge<const D: usize>(normal: &[f64; D], scale: Scale) -> Result<bool, String
             return wrong("lists that are too short were taken", &out);
         }
     }
+    if ordinary(normal)
+        && !right
+            .as_deref()
+            .is_some_and(|right| same_unit::<D>(normal, right))
+    {
+        return wrong("has another unit as it is given", &[]);
+    }
     Ok(right.is_some())
+}
+
+/// Whether the proved unit vector, and in space the whole frame, is the same of both.
+fn same_unit<const D: usize>(a: &[f64], b: &[f64]) -> bool {
+    let frame = |normal: &[f64]| match D {
+        2 => proved::line_normal(normal.try_into().unwrap()).map(|unit| unit.to_vec()),
+        _ => proved::plane_frame(normal.try_into().unwrap()).map(|frame| frame.concat()),
+    };
+    match (frame(a), frame(b)) {
+        (Some(a), Some(b)) => agree(same, &a, &b),
+        (a, b) => a.is_none() && b.is_none(),
+    }
 }
 
 /// Holds a scaling of this width against the model.
@@ -291,7 +314,7 @@ pub struct Entries {
     pub ordinary: u64,
 }
 
-/// Whether no square of a component overflows or underflows.
+/// Whether all components are finite, and no square of one overflows or underflows, nor their sum overflows.
 fn ordinary(normal: &[f64]) -> bool {
     let squares = || normal.iter().map(|x| x * x);
     let underflows = |(x, square): (&f64, f64)| *x != 0.0 && square <= f64::MIN_POSITIVE;

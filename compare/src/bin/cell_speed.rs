@@ -1,5 +1,6 @@
 //! Prints nanoseconds a call, the proved entries beside the Rust's functions, in one run on the same inputs.
-//! The Rust's side has its cell made before the clock runs, and forms the vectors within it, as ours does.
+//! The Rust's side has its cell made before the clock runs, and forms the vectors within it, as ours does. It takes each normal as it
+//! is given.
 
 use compare::answers::{answer, room};
 use compare::entries::{ours, Case, Entry, Lent, Told};
@@ -37,6 +38,11 @@ fn main() {
         500_000,
         &strict(brick(at(0.5), UP)),
     );
+    compared(
+        "the same by a scaled normal",
+        500_000,
+        &scaled(brick(at(0.5), UP)),
+    );
     compared("brick, a hexagon", 500_000, &brick(middle, [1.0; 3]));
     let gathered = |number, coords: &[f64], z| cell(Entry::Gather, number, coords, &at(z), &UP);
     let tetrahedron = gathered(12, &TETRAHEDRON, 0.25);
@@ -57,8 +63,13 @@ fn main() {
     compared("line through the brick", 200_000, &line);
     let square = cell(Entry::PlaneCellByNormal, 8, &SQUARE, &[0.5; 2], &[0.0, 1.0]);
     compared("quadrilateral by normal", 1_000_000, &square);
+    compared("the same by a scaled normal", 1_000_000, &scaled(square));
     compared("384 segments stitched", 4_000, &ring(384));
     compared("the same in the strict way", 4_000, &strict(ring(384)));
+}
+
+fn scaled(case: Case) -> Case {
+    Case { scaled: 1, ..case }
 }
 
 fn strict(case: Case) -> Case {

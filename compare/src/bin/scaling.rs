@@ -22,7 +22,7 @@ fn main() -> ExitCode {
         (in_plane, "normals in the plane"),
         (in_space, "normals in space"),
     ] {
-        all.found.print(name, "are scaled");
+        all.found.print(name, "are taken");
         print_kinds(&all);
         differing += all.found.differing;
         complete &= all.complete();
@@ -59,4 +59,8 @@ fn print_kinds(all: &Scalings) {
         println!("           {many:>9} {name}");
     }
     println!("           not finite, by place: {:?}", all.places);
+    println!(
+        "           {} whose squares neither overflow nor underflow, their unit to the bit that of the normal as it is given",
+        all.ordinary
+    );
 }
