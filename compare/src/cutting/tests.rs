@@ -3,7 +3,7 @@ use crate::answers::{given, room};
 use crate::comparisons::wrong::{counted, right, End, COUNTS};
 use crate::cuts::any_case;
 use crate::entries::{by_c, ours};
-use crate::ways::{ways, wrong::KINDS, STRICT, USUAL};
+use crate::ways::{ways, wrong::KINDS, SCALED, STRICT, USUAL};
 use crate::worked::{self, worked_in_all_buffers, Worked, BY_DEFAULT, COMPARISONS, NAMES};
 use oracle::walks::{Kind, Walk};
 use oracle::BUILDS;
@@ -583,7 +583,10 @@ fn another_order_of_refusals_is_seen() {
             2 => !case.coords.len().is_multiple_of(width),
             3 => kept_corners(case).iter().any(|&at| case.conn[at] >= rows),
             4 => case.origin.len() != width || case.vector.len() != width,
-            5 => case.vector.iter().all(|x| x * x == 0.0 || x.is_nan()),
+            5 => {
+                let normal = &as_given(case).vector;
+                normal.iter().all(|x| x * x == 0.0 || x.is_nan())
+            }
             _ => (0..3).any(|k| case.lent[k] < room(case)[k]),
         }
     }
@@ -604,10 +607,10 @@ fn another_order_of_refusals_is_seen() {
     ];
     for cut in wrong {
         for entry in &CUTS[..5] {
-            assert!(
-                compare_refusals(*entry, 1, USUAL, cut).differing > 0,
-                "{entry:?}"
-            );
+            for way in ways(*entry) {
+                let found = compare_refusals(*entry, 1, way, cut);
+                assert!(found.differing > 0, "{entry:?} {way:?}");
+            }
         }
     }
     // stitching that tests 7 before 8
@@ -620,6 +623,39 @@ fn another_order_of_refusals_is_seen() {
         told
     };
     assert!(compare_refusals(Entry::Stitch, 4, STRICT, short_first).differing > 0);
+}
+
+/// A component that is not finite refused before all else, and one that is not refused.
+#[test]
+fn a_component_that_is_not_finite_out_of_its_place_is_seen() {
+    fn told_as(
+        case: &Case,
+        lent: Lent,
+        refusals: std::ops::RangeInclusive<u32>,
+        told: u32,
+    ) -> Told {
+        let right = ours(case, lent);
+        let finite = case.vector.iter().all(|x| x.is_finite());
+        if case.scaled == 0 || finite || !refusals.contains(&right.refusal) {
+            return right;
+        }
+        Told {
+            refusal: told,
+            ..Told::default()
+        }
+    }
+    let early: Cut = |case, lent| told_as(case, lent, 1..=5, 6);
+    let late: Cut = |case, lent| told_as(case, lent, 6..=6, 7);
+    let never: Cut = |case, lent| told_as(case, lent, 6..=6, 0);
+    let by_normal = ENTRIES.into_iter().filter(|entry| entry.takes_normal());
+    for entry in by_normal {
+        for cut in [early, late, never] {
+            assert!(
+                compare_refusals(entry, 1, SCALED, cut).differing > 0,
+                "{entry:?}"
+            );
+        }
+    }
 }
 
 /// Refusal 7 for buffers that fit exactly, and none for those that lack one place.
