@@ -560,6 +560,7 @@ fn in_way(strict: u8, case: Case) -> Case {
     Case { strict, ..case }
 }
 
+/// The answers to scaled normals, and beside some that to the normal as it is given.
 fn of_the_scaled_way() -> Vec<Worked> {
     let first = NAMES.len() + BY_DEFAULT.len() + COMPARISONS.len() + STRICT.len();
     let mut all = across_x(first + 1);
@@ -582,20 +583,19 @@ fn across_x(number: usize) -> Vec<Worked> {
     let across =
         |x| [Entry::Plane, Entry::Gather].map(|of| brick(of, [0.5, 0.0, 0.0], [x, 0.0, 0.0]));
     let answers = || [square.clone(), sides.clone()];
-    let with = |case: Case, answer| is(number, case, answer);
     let mut all = Vec::new();
     for x in [1.0, 1e200, f64::MAX, LEAST_NORMAL, LEAST] {
         let pairs = across(x).into_iter().zip(answers());
-        all.extend(pairs.map(|(case, answer)| with(scaled(case), answer)));
+        all.extend(pairs.map(|(case, answer)| is(number, scaled(case), answer)));
     }
     for scaled in [2, 255] {
         let pairs = across(LEAST).into_iter().zip(answers());
-        all.extend(pairs.map(|(case, answer)| with(Case { scaled, ..case }, answer)));
+        all.extend(pairs.map(|(case, answer)| is(number, Case { scaled, ..case }, answer)));
     }
     // in the strict way too, and as it is given
     let [case, _] = across(1e200);
-    all.push(with(in_way(1, scaled(case.clone())), square.clone()));
-    all.push(with(case, none()));
+    all.push(is(number, in_way(1, scaled(case.clone())), square.clone()));
+    all.push(is(number, case, none()));
     all
 }
 

@@ -43,7 +43,7 @@
 //!
 //! let coords = [0., 0., 0., 1., 0., 0., 0., 1., 0., 0., 0., 1.];
 //! let origin = [0., 0., 0.25];
-//! // through this point across (0, 0, 1), divided by a determinant that is nearly zero
+//! // (0, 0, 1) divided by a determinant that is nearly zero
 //! let normal = [0., 0., 1. / 1e-200];
 //! let cut = |scaled| cut_by_plane(SpaceType::Tet4, &[0, 1, 2, 3], &coords, &origin, &normal, scaled, false, 0.);
 //! assert_eq!(cut(false)?.loops().count(), 0);
