@@ -10,7 +10,7 @@ from .buffers import Growing
 from .celltypes import POLYHEDRON
 from .library import LINE, MOST_ENTRIES, SECTION, floats, library
 from .mesh import Block, Faces, Mesh, Polyhedra
-from .place import ABOVE, BELOW, Sides, Vector, distances, unit
+from .place import ABOVE, BELOW, Sides, Vector, distances, unit_normal
 from .refusal import Refused
 
 Progress = Callable[[int, int], None]  # cells done, and to do in all
@@ -31,7 +31,7 @@ class CellLoop:
 
     name: str
     told: np.dtype
-    stitches: bool  # it is told whether in the strict way
+    stitches: bool  # it is told whether in the strict way, beside whether the normal is scaled
     taken: Callable[[np.ndarray], tuple[np.ndarray, ...]]
 
 
@@ -61,10 +61,12 @@ class Loops:
 
 
 class Cutter:
-    """Calls for the cells of one mesh, by one plane, in the strict way or the usual one."""
+    """Calls for the cells of one mesh, by one plane, with its normal scaled or as it is given, in the strict way or the usual one."""
 
-    def __init__(self, mesh: Mesh, origin: Vector, normal: Vector, tol: float, own: float = np.inf, strict: bool = False) -> None:
-        self.mesh, self.origin, self.unit, self.tol, self.own, self.strict = mesh, origin, unit(normal), tol, own, strict
+    def __init__(self, mesh: Mesh, origin: Vector, normal: Vector, tol: float, own: float = np.inf, scaled: bool = True,
+                 strict: bool = False) -> None:
+        self.mesh, self.origin, self.unit, self.tol, self.own = mesh, origin, unit_normal(normal, scaled), tol, own
+        self.scaled, self.strict = scaled, strict
         self.vectors = floats(origin), floats(normal)
         self.place = (mesh.points.ctypes.data, mesh.points.size, *(v.ctypes.data for v in self.vectors))
         self.written = [Growing(np.float64, 1 << 16), Growing(np.uint32, 1 << 15), Growing(np.uint32, 1 << 15)]
@@ -99,13 +101,13 @@ class Cutter:
                progress: Callable[[int], None] | None, name: Callable[[int], str]) -> np.ndarray:
         conn, starts = (np.ascontiguousarray(a, dtype=np.int64) for a in (conn, starts))
         told = np.zeros(len(starts) - 1, dtype=loop.told)
-        way = (self.strict,) if loop.stitches else ()
+        ways = (self.scaled, self.strict) if loop.stitches else (self.scaled,)
         done = 0
         while done < len(told):
             buffers = [part for buffer in lent for part in buffer.lend(6 * MOST_ENTRIES)]
             part = min(AT_ONCE, len(told) - done)
             answered = getattr(library(), loop.name)(
-                number, conn.ctypes.data, starts[done:].ctypes.data, part, *self.place, *way, self.tol, *buffers, told[done:].ctypes.data)
+                number, conn.ctypes.data, starts[done:].ctypes.data, part, *self.place, *ways, self.tol, *buffers, told[done:].ctypes.data)
             new = told[done : done + answered]
             for buffer, used in zip(lent, loop.taken(new)):
                 buffer.used += int(used.sum())

@@ -172,7 +172,8 @@ def _parser() -> argparse.ArgumentParser:
 def _add_cut(command: argparse.ArgumentParser, way: str) -> None:
     command.add_argument("mesh", type=Path, metavar="MESH", help="a mesh file of any format that meshio reads")
     command.add_argument("--origin", type=_numbers, required=True, metavar="X,Y,Z", help="a point of the cut; two numbers in a plane mesh")
-    command.add_argument(f"--{way}", type=_direction, required=True, metavar="X,Y,Z", help="of any length but 0; or an axis: x, -y, z")
+    lengths = {"normal": "of any length but 0", "direction": "of a length from 1e-150 to 1e150"}
+    command.add_argument(f"--{way}", type=_direction, required=True, metavar="X,Y,Z", help=f"{lengths[way]}; or an axis: x, -y, z")
     command.add_argument("--tolerance", type=_tolerance, metavar="T", help=(
         "the distance up to which a point counts as on the cut, and two points as one; by default the mesh's own, "
         "below which crossings that were rounded can be missed"))

@@ -71,21 +71,21 @@ def _declared(lib: ctypes.CDLL) -> ctypes.CDLL:
     cell = [c_uint8, *lent, *lent]
     cut = [*lent, *lent]
     way = c_uint8
-    lib.cicelybeam_plane.argtypes = [*cell, *cut, way, c_double, *lent, *lent, *lent]
+    lib.cicelybeam_plane.argtypes = [*cell, *cut, way, way, c_double, *lent, *lent, *lent]  # scaled, strict
     lib.cicelybeam_plane.restype = Section
     lib.cicelybeam_stitch.argtypes = [*lent, way, c_double, *lent, *lent, *lent]
     lib.cicelybeam_stitch.restype = Section
-    for name in ("gather", "line_in_space", "plane_cell_by_normal", "plane_cell_by_direction"):
+    for name, ways in (("gather", [way]), ("line_in_space", []), ("plane_cell_by_normal", [way]), ("plane_cell_by_direction", [])):
         function = getattr(lib, "cicelybeam_" + name)
-        function.argtypes = [*cell, *cut, c_double, *lent]
+        function.argtypes = [*cell, *cut, *ways, c_double, *lent]  # by a normal: scaled
         function.restype = Line
     for name in ("tolerance_in_space", "tolerance_in_plane"):
         function = getattr(lib, "cicelybeam_" + name)
         function.argtypes = lent
         function.restype = Tolerance
     cells = [c_uint8, c_void_p, *lent, *lent, c_void_p, c_void_p]
-    lib.cells_by_plane.argtypes = [*cells, way, c_double, *lent, *lent, *lent, c_void_p]
-    lib.cells_gathered.argtypes = [*cells, c_double, *lent, c_void_p]
+    lib.cells_by_plane.argtypes = [*cells, way, way, c_double, *lent, *lent, *lent, c_void_p]
+    lib.cells_gathered.argtypes = [*cells, way, c_double, *lent, c_void_p]
     lib.cells_by_plane.restype = lib.cells_gathered.restype = c_size_t
     lib.cicelybeam_sqrt.argtypes = [c_double]
     lib.cicelybeam_sqrt.restype = c_double
@@ -94,6 +94,11 @@ def _declared(lib: ctypes.CDLL) -> ctypes.CDLL:
         size_of.restype = c_size_t
         if size_of() != ctypes.sizeof(structure):
             raise OSError(f"struct cicelybeam_{name} has {size_of()} bytes there, and {ctypes.sizeof(structure)} in this package")
+    for name, function in (("plane", lib.cells_by_plane), ("gathered", lib.cells_gathered)):
+        arguments_of = getattr(lib, "arguments_of_" + name)
+        arguments_of.restype = c_size_t
+        if arguments_of() != len(function.argtypes):
+            raise OSError(f"{function.__name__} has {arguments_of()} arguments there, and {len(function.argtypes)} in this package")
     return lib
 
 

@@ -27,7 +27,7 @@ from .rings import Rings, simple_rings
 from .shapes import less, neighbours, union
 
 if TYPE_CHECKING:
-    from .section import Reached
+    from .section import Asked, Reached
 
 LEVELS = 11  # distances of 4, 16, 64 .. tolerances
 GROWTH = 4
@@ -64,14 +64,14 @@ class Lost:
     filled: np.ndarray
 
 
-def lost_area(mesh: Mesh, frame: Frame, normal: Vector, tol: float, cells: np.ndarray, reached: Reached, usual: Near | None, loops: Loops,
+def lost_area(mesh: Mesh, frame: Frame, asked: Asked, tol: float, cells: np.ndarray, reached: Reached, usual: Near | None, loops: Loops,
               rings: Rings) -> Lost:
     """Of these cells, sorted. For those that lie wholly within the tolerance their corners stand for their section. `usual` has those
     with pinched edges cut in the plane itself."""
     within = {*reached.within.tolist()}
     if not len(cells):
         return Lost(cells, np.zeros(0), 0.0, np.zeros(0))
-    found = _Estimate(mesh, frame, normal, tol, cells)
+    found = _Estimate(mesh, frame, asked, tol, cells)
     pinched = {cell: usual.shape(cell) for cell in usual.cells.tolist()} if usual else {}  # what the usual way draws of them
     known = found.drawn_whole(usual, reached.no_segment) if usual else set()
     drawn = np.zeros(len(cells))
@@ -117,8 +117,8 @@ class _Drawn:
 class _Estimate:
     """These cells by planes above and below: the area of each carried back to distance 0, the larger of both sides."""
 
-    def __init__(self, mesh: Mesh, frame: Frame, normal: Vector, tol: float, cells: np.ndarray) -> None:
-        self.mesh, self.frame, self.normal, self.tol, self.cells = mesh, frame, normal, tol, cells
+    def __init__(self, mesh: Mesh, frame: Frame, asked: Asked, tol: float, cells: np.ndarray) -> None:
+        self.mesh, self.frame, self.asked, self.tol, self.cells = mesh, frame, asked, tol, cells
         self.size = _sizes(mesh, cells)
         self.level = np.full((2, len(cells)), -1)  # the level from which on a cell is drawn whole, above and below
         self.area = np.full(len(cells), np.nan)
@@ -154,7 +154,7 @@ class _Estimate:
         if (side, level) not in self.cuts:
             away = (1 - 2 * side) * self.tol * GROWTH ** (level + 1)
             origin = moved(self.frame.origin, self.frame.normal, away)
-            self.cuts[side, level] = cut_alone(self.mesh, origin, self.normal, self.tol, self.cells)
+            self.cuts[side, level] = cut_alone(self.mesh, origin, self.asked, self.tol, self.cells)
         return self.cuts[side, level]
 
     def shapes(self, k: int, flat: bool, loops: Loops) -> tuple[BaseGeometry, BaseGeometry | None]:
@@ -185,9 +185,9 @@ def _sizes(mesh: Mesh, cells: np.ndarray) -> np.ndarray:
     return np.concatenate(sizes)
 
 
-def cut_alone(mesh: Mesh, origin: Vector, normal: Vector, tol: float, cells: np.ndarray) -> Near:
-    """These cells, sorted, cut by a plane in the usual way."""
-    cutter = Cutter(mesh, origin, normal, tol)
+def cut_alone(mesh: Mesh, origin: Vector, asked: Asked, tol: float, cells: np.ndarray) -> Near:
+    """These cells, sorted, cut in the usual way by the plane through origin with the normal asked for."""
+    cutter = Cutter(mesh, origin, asked.normal, tol, scaled=asked.scaled)
     for block, part in _by_block(mesh, cells):
         cutter.cut(block, part)
     loops = cutter.loops()

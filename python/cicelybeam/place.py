@@ -35,24 +35,80 @@ def dot(a: Vector, b: Vector) -> float:
     return total
 
 
-def unit(a: Vector) -> Vector:
-    """Each component divided by the norm, which must be greater than 0.
+def unit(a: Vector, mend: str = "") -> Vector:
+    """Each component divided by the norm, which must be greater than 0; `mend` says what to do where it is not.
 
     >>> unit((0.0, 0.0, 2.0))
     (0.0, 0.0, 1.0)
     """
     norm = library().cicelybeam_sqrt(dot(a, a))
     if not norm > 0.0:
-        raise Refused(6)
+        raise Refused(6, detail=mend)
     return tuple(x / norm for x in a)
 
 
-def check_unit(given: Vector, made: Vector, what: str) -> None:
+def check_unit(given: Vector, made: Vector, what: str, mend: str = "scale it to about 1") -> None:
     """Refuses what the rule accepts and does not make of length 1: where squares overflow or lose their digits."""
     if not abs(sum(x * x for x in made) - 1.0) < 1e-9:
-        raise CicelybeamError(
-            f"the {what} {given} is too large or too small: its squares cannot be added up; scale it to about 1"
-        )
+        raise CicelybeamError(f"the {what} {given} is too large or too small: its squares cannot be added up; {mend}")
+
+
+def exponent(a: Vector) -> int:
+    """That of the greatest power of two that is not above the greatest absolute component, which is not 0.
+
+    >>> exponent((0.0, -7.0, 3.0)), exponent((5e-324, 0.0, 0.0))
+    (2, -1074)
+    """
+    return math.frexp(max(map(abs, a)))[1] - 1
+
+
+def scaled_normal(normal: Vector) -> Vector:
+    """A finite normal times the power of two that brings its greatest absolute component to at least 1 and under 2, each exact product
+    rounded once. A normal of zeros is not scaled.
+
+    It is divided by the inverse, as the library does it: 2^1074 is no 64-bit float, and 2^-1074 is one.
+
+    >>> scaled_normal((3 * 2.0**600, 0.0, -(2.0**600))), scaled_normal((5e-324, 0.0, -2e-323))
+    ((1.5, 0.0, -0.5), (0.25, 0.0, -1.0))
+    """
+    return tuple(x / math.ldexp(1.0, exponent(normal)) for x in normal) if any(normal) else normal
+
+
+def taken(normal: Vector, scaled: bool) -> Vector:
+    """The normal that is made unit: scaled, or as it is given."""
+    return scaled_normal(normal) if scaled else normal
+
+
+def unit_normal(normal: Vector, scaled: bool) -> Vector:
+    """The unit normal of a plane. A scaled normal may be of any length but 0; as it is given, its squares have to add up.
+
+    >>> unit_normal((0.0, 0.0, 1e200), True)
+    (0.0, 0.0, 1.0)
+    """
+    if not any(normal):
+        raise Refused(6, detail="give a normal with a component other than 0")
+    if scaled:
+        return unit(scaled_normal(normal))
+    mend = "leave scaled=False out, or scale it to about 1"
+    n = unit(normal, f"the squares of {normal} underflow to 0; {mend}")
+    check_unit(normal, n, "normal", mend)
+    return n
+
+
+def why_scaled(normal: Vector) -> str:
+    """Why it matters that this normal was scaled: why it is refused as it is given, or has another unit normal then. Else nothing.
+
+    >>> why_scaled((1e200, 0.0, 0.0)), why_scaled((0.0, 1e-200, 0.0)), why_scaled((0.0, 0.0, 1e100))
+    ('since the sum of its squares overflows', 'since its squares underflow to 0', '')
+    """
+    norm, scaled_norm = (library().cicelybeam_sqrt(dot(a, a)) for a in (normal, scaled_normal(normal)))
+    if norm == math.inf:
+        return "since the sum of its squares overflows"
+    if not norm > 0.0:
+        return "since its squares underflow to 0"
+    if unit(normal) == unit(scaled_normal(normal)):
+        return ""
+    return "which rounds a component" if math.ldexp(norm, -exponent(normal)) == scaled_norm else "since its squares underflow and lose digits"
 
 
 def cross(a: Vector, b: Vector) -> Vector:
@@ -87,10 +143,9 @@ class Frame:
         return (points - np.array(self.origin)) @ np.array([self.u, self.v]).T
 
 
-def plane(origin: Vector, normal: Vector) -> Frame:
+def plane(origin: Vector, normal: Vector, scaled: bool) -> Frame:
     """The plane of a plane cut."""
-    n = unit(normal)
-    check_unit(normal, n, "normal")
+    n = unit_normal(normal, scaled)
     seed = least_aligned_axis(n)
     along = dot(seed, n)
     u = unit(tuple(s - along * c for s, c in zip(seed, n)))
@@ -173,7 +228,7 @@ def vector(numbers: object, width: int, what: str) -> Vector:
     if len(found) != width:
         raise Refused(5, detail=f"the mesh has {width} dimensions, and {len(found)} numbers were given")
     if not all(map(math.isfinite, found)):
-        raise CicelybeamError(f"the {what} {found} has a number that is not finite")
+        raise CicelybeamError(f"the {what} {found} has a number that is not finite: give finite numbers")
     return found
 
 
@@ -181,7 +236,7 @@ def nearest_in_plane(origin: Vector, normal: Vector, middle: Vector) -> Vector:
     """The point of the plane that is nearest to the middle.
 
     Cells are cut from here: far from the mesh an origin costs as many digits of every distance as it is far away. The point
-    is worked out in fractions from the normal as it is given, so that it is off the plane by its own rounding only. Where it
+    is worked out in fractions from the normal that is made unit, so that it is off the plane by its own rounding only. Where it
     or the middle is too large for numbers, it is the origin.
 
     >>> nearest_in_plane((1e9, 0.0, 0.1), (0.0, 0.0, 7.0), (0.5, 0.25, 0.5))

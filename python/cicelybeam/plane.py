@@ -185,15 +185,18 @@ def cut_plane(
     normal: object,
     tolerance: float | None = None,
     *,
+    scaled: bool = True,
     strict: bool = False,
     shift: bool = False,
     shift_most: float | None = None,
     leave_out: bool = True,
     progress: Progress | None = None,
 ) -> PlaneCut:
-    """All cells of a space mesh cut by the plane through origin with this normal, which need not be of length 1.
+    """All cells of a space mesh cut by the plane through origin with this normal, which may be of any length but 0.
 
-    The tolerance is the distance up to which a point counts as on the plane and two points as one; by default the
+    The normal is scaled by a power of two before it is made unit; the record says by which where that matters. With `scaled=False` it is
+    taken as it is given, as mefikit takes it, and beyond about 1e154 or within about 1e-154, where its squares overflow or lose
+    digits, it is refused, or a few digits of its unit normal are wrong. Elsewhere both are the same. The tolerance is the distance up to which a point counts as on the plane and two points as one; by default the
     mesh's own. With `strict` a polygon that passes twice through a point is not drawn: its edges are counted as pinched, and its area
     is told as lost. Without, it is cut there into rings. With `shift` the cut is by the nearest parallel plane by which everything is drawn, up to `shift_most` away (by
     default 1e-6 of the mesh's extent); `record.shift` tells how far it is, or is 0 where there is none.
@@ -206,6 +209,9 @@ def cut_plane(
     [[0.0, 0.0], [1.0, 0.0], [1.0, 1.0], [0.0, 1.0]]
     >>> cut.record.area, cut.record.all_drawn
     (1.0, True)
+    >>> long = cut_plane(cube, (0, 0, 0.5), (0, 0, 1e200))
+    >>> long.record.area, long.record.normal, long.record.scaled_exponent
+    (1.0, [0.0, 0.0, 1.0], -664)
     """
     found = mesh if isinstance(mesh, Mesh) else of_meshio(mesh)
     _check(found)
@@ -214,7 +220,7 @@ def cut_plane(
     tol = place.chosen_tolerance(tolerance, own, found.source)
     if shift_most is not None and not 0.0 < shift_most < math.inf:
         raise CicelybeamError(f"the distance {shift_most} for the search is not a number above 0")
-    asked = Asked(origin, normal, tol, own, bool(strict))
+    asked = Asked(origin, normal, tol, own, bool(scaled), bool(strict))
     with np.errstate(all="ignore"):  # a cell with numbers that overflow is told of; numpy need not say so as well
         cut = _made(Section(found, asked, leave_out, progress))
         if shift and not (cut.record.all_drawn and cut.record.nothing_lost):

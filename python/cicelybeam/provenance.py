@@ -31,9 +31,12 @@ def origin_of(cut: PlaneCut | LineCut, command: str | None = None) -> dict:
 
 def _in_python(cut: PlaneCut | LineCut) -> str:
     record = cut.record
-    name, way = ("cut_plane", cut.frame.normal) if isinstance(cut, PlaneCut) else ("cut_line", cut.direction)
-    strict = ", strict=True" if isinstance(cut, PlaneCut) and record.strict else ""
-    return f"cicelybeam.{name}(cicelybeam.read({cut.mesh.source!r}), {tuple(record.origin)}, {tuple(way)}, {record.tolerance!r}{strict})"
+    if isinstance(cut, PlaneCut):
+        name, way = "cut_plane", cut.frame.normal if record.scaled_exponent is None else cut.asked.normal
+        options = ("" if record.scaled else ", scaled=False") + (", strict=True" if record.strict else "")
+    else:
+        name, way, options = "cut_line", cut.direction, ""
+    return f"cicelybeam.{name}(cicelybeam.read({cut.mesh.source!r}), {tuple(record.origin)}, {tuple(way)}, {record.tolerance!r}{options})"
 
 
 def _of_mesh(cut: PlaneCut | LineCut) -> str:

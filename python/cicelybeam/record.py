@@ -9,7 +9,7 @@ from typing import TYPE_CHECKING
 import numpy as np
 
 from .cells import COUNTS, not_drawn
-from .place import Sides, distances
+from .place import Sides, distances, exponent, why_scaled
 from .version import VERSION
 
 if TYPE_CHECKING:
@@ -85,6 +85,9 @@ class PlaneRecord:
     shift: float  # how far along the normal from the origin given the cells were cut
     tolerance: float
     mesh_tolerance: float
+    scaled: bool  # the normal was scaled before it was made unit; else it was taken as it is given
+    scaled_exponent: int | None  # of the power of two, where that matters: as it is given the normal is refused, or has another unit normal
+    scaled_why: str  # why it matters, in words
     strict: bool  # cut in the strict way: a polygon that passes twice through a point is pinched, and not drawn
     extent: list[list[float]]  # the least and the greatest of each coordinate of the mesh's nodes
     cells: int  # in the mesh
@@ -224,6 +227,8 @@ class PlaneRecord:
     def _remarks(self) -> list[str]:
         """What else a reader of the area has to know."""
         found = []
+        if self.scaled_exponent is not None:
+            found.append(f"the normal was {self._scaled()}")
         if self.missed_by:
             found.append(f"the plane misses the mesh by {self.missed_by:.6g}")
         if self.lost_cells:
@@ -276,12 +281,14 @@ class PlaneRecord:
         shift = [("shift", f"{self.shift:.6g} along the normal")] if self.shift else []
         traces = [] if self.traces is None else [("traces", f"{self.traces} on the faces of {number(self.with_traces or 0, 'cell')}")]
         pinched = [("pinched", self._pinched())] if self.strict else []
+        scaled = [] if self.scaled_exponent is None else [("normal", self._scaled())]
         lines = [
             ("mesh", self.source),
             ("extent", extent(self.extent)),
             ("cells", f"{self.cells}: {counted(self.cells_by_type)}"),
             ("not cut", self._not_cut()),
             ("plane", f"through {vector(self.origin)}, normal {vector(self.normal)}"),
+            *scaled,
             ("its axes", f"u along {vector(self.u)}, v along {vector(self.v)}"),
             *shift,
             ("tolerance", f"{self.tolerance:.6g} (the mesh's own: {self.mesh_tolerance:.6g})"),
@@ -312,6 +319,9 @@ class PlaneRecord:
             ("not finite", self.not_finite, f"{number(len(self.not_finite), 'cell')}{some(self.not_finite)}"),
         ]
         return lines + [(name, words) for name, shown, words in more if shown]
+
+    def _scaled(self) -> str:
+        return f"scaled by 2^{self.scaled_exponent}, {self.scaled_why}"
 
     def _pinched(self) -> str:
         where = f" in {number(len(self.pinched_cells), 'cell')}{some(self.pinched_cells)}" if self.pinched else ""
@@ -430,9 +440,11 @@ def plane_record(cut: PlaneCut, section: Section) -> PlaneRecord:
     reached, rings, net = section.reached, section.rings, section.net
     lost, filled, undrawn = section.lost.total, section.lost.filled, _undrawn(cut, section)
     whole = net.area + lost - float(filled.sum())
+    why = why_scaled(asked.normal) if asked.scaled else ""
     record = PlaneRecord(
         VERSION, mesh.source, list(asked.origin), list(frame.normal), list(frame.u), list(frame.v), asked.shift, asked.tol, asked.own,
-        asked.strict, mesh.extent, mesh.total, mesh.types(), mesh.not_cut(), _not_cut_reached(mesh, section.sides),
+        asked.scaled, -exponent(asked.normal) if why else None, why, asked.strict, mesh.extent, mesh.total, mesh.types(), mesh.not_cut(),
+        _not_cut_reached(mesh, section.sides),
         handed_over=reached.handed_over, straightened=reached.curved, crossed=len(reached.through), with_edges=len(cut.cells),
         polygons=int((~cut.hole).sum()), holes=int(cut.hole.sum()), self_touching=rings.self_touching, self_crossing=rings.crossing,
         area=net.area, repeated_area=net.repeated, coincident_polygons=net.coincident, doubled_polygons=net.doubled,

@@ -19,12 +19,13 @@ from .shift import Drawn
 
 @dataclass(frozen=True)
 class Asked:
-    """What a cut was asked for: the plane as given, the tolerance and the mesh's own, the way, and a distance along the unit normal."""
+    """What a cut was asked for: the plane as given, the tolerance and the mesh's own, the ways, and a distance along the unit normal."""
 
     origin: Vector
     normal: Vector
     tol: float
     own: float
+    scaled: bool = True
     strict: bool = False
     shift: float = 0.0
 
@@ -48,13 +49,13 @@ class Section:
 
     def __init__(self, mesh: Mesh, asked: Asked, leave_out: bool = True, progress: Progress | None = None) -> None:
         self.mesh, self.asked = mesh, asked
-        given = place.plane(asked.origin, asked.normal)
-        near = place.nearest_in_plane(asked.origin, asked.normal, mesh.centre() or asked.origin)
+        given = place.plane(asked.origin, asked.normal, asked.scaled)
+        near = place.nearest_in_plane(asked.origin, place.taken(asked.normal, asked.scaled), mesh.centre() or asked.origin)
         self.frame, self.near = (replace(given, origin=place.moved(origin, given.normal, asked.shift)) for origin in (asked.origin, near))
         self.sides = place.sides(mesh.points, self.near.origin, self.near.normal, asked.tol)
         # of each node, or None where all are: a sum tells quickly, but for one that overflows
         self.finite = None if np.isfinite(mesh.points.sum()) else np.isfinite(mesh.points).all(axis=1)
-        self.cutter = Cutter(mesh, self.near.origin, asked.normal, asked.tol, asked.own, asked.strict)
+        self.cutter = Cutter(mesh, self.near.origin, asked.normal, asked.tol, asked.own, asked.scaled, asked.strict)
         self.reached = self._cut(leave_out, progress)
         self.loops: Loops = self.cutter.loops()
         self.rings: Rings = simple_rings(self.loops, self.tol)
@@ -122,8 +123,8 @@ class Section:
     @cached_property
     def lost(self) -> Lost:
         pinched = np.intersect1d(self.pinched, self.doubtful)
-        usual = cut_alone(self.mesh, self.near.origin, self.asked.normal, self.asked.tol, pinched) if len(pinched) else None
-        return lost_area(self.mesh, self.near, self.asked.normal, self.tol, self.doubtful, self.reached, usual, self.loops, self.rings)
+        usual = cut_alone(self.mesh, self.near.origin, self.asked, self.asked.tol, pinched) if len(pinched) else None
+        return lost_area(self.mesh, self.near, self.asked, self.tol, self.doubtful, self.reached, usual, self.loops, self.rings)
 
     def drawn(self, looked_at: int) -> Drawn:
         """How much is drawn. Where something is not drawn in more cells than are to be looked at, area counts as lost."""

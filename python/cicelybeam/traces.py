@@ -68,7 +68,7 @@ def gather(cut: PlaneCut) -> Traces:
     """The traces of the plane that the cells were cut by."""
     mesh, near, asked = cut.mesh, cut.near, cut.asked
     sides = place.sides(mesh.points, near.origin, near.normal, asked.tol)
-    cutter = Cutter(mesh, near.origin, asked.normal, asked.tol)
+    cutter = Cutter(mesh, near.origin, asked.normal, asked.tol, scaled=asked.scaled)
     parts, defaulted = [], {}
     for block in mesh.blocks:
         reached = np.flatnonzero(sides.reached(block))

@@ -18,11 +18,11 @@ normals = st.tuples(small, small, small).filter(any)
 places = st.tuples(*3 * [st.sampled_from([0.25, 0.5, 1 / 3, 0.4, 0.7])])
 
 
-def one_call(mesh, number, conn, origin, normal, tol, strict=False) -> tuple[Section, np.ndarray, np.ndarray, np.ndarray]:
+def one_call(mesh, number, conn, origin, normal, tol, strict=False, scaled=True) -> tuple[Section, np.ndarray, np.ndarray, np.ndarray]:
     o, n, conn = np.array(origin, dtype=float), np.array(normal, dtype=float), np.ascontiguousarray(conn)
     numbers, nodes, ends = np.empty(6 * 256), np.empty(384, np.uint32), np.empty(128, np.uint32)
     s = library().cicelybeam_plane(number, conn.ctypes.data, conn.size, mesh.points.ctypes.data, mesh.points.size, o.ctypes.data, 3,
-                                   n.ctypes.data, 3, strict, tol, numbers.ctypes.data, numbers.size, nodes.ctypes.data, nodes.size,
+                                   n.ctypes.data, 3, scaled, strict, tol, numbers.ctypes.data, numbers.size, nodes.ctypes.data, nodes.size,
                                    ends.ctypes.data, ends.size)
     return s, numbers[: 2 * s.points], nodes[: s.nodes], ends[: s.loops]
 

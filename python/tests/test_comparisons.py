@@ -481,6 +481,8 @@ STUBS = "".join(f"void cicelybeam_{name}(void) {{}}\n" for name in (
 
 @pytest.mark.parametrize("older,words_told", [
     ("no sizes", "size_of_section; run python/build to link it again"),
+    ("no numbers of arguments", "arguments_of_plane; run python/build to link it again"),
+    ("fewer arguments", "cells_by_plane has 17 arguments there, and 18 in this package; run python/build to link it again"),
     ("comparisons", "struct cicelybeam_section has 40 bytes there, and 44 in this package; run python/build to link it again"),
     ("pinched", "struct cicelybeam_section has 40 bytes there, and 44 in this package; run python/build to link it again"),
     ("today's", None),
@@ -492,8 +494,11 @@ def test_a_library_without_the_field(path, tmp_path, older, words_told):
     assert (without != header) == (older in ("comparisons", "pinched"))
     (tmp_path / "cicelybeam.h").write_text(without)
     (tmp_path / "stubs.c").write_text(STUBS)
-    subprocess.run(["gcc", "-shared", "-fPIC", "-I", tmp_path, *(["-Dsize_of_section=former"] if older == "no sizes" else []), "-o", tmp_path / "older.so",
-                    ROOT / "python" / "loop.c", tmp_path / "stubs.c"], check=True)
+    loop = (ROOT / "python" / "loop.c").read_text()
+    (tmp_path / "loop.c").write_text(loop.replace("return 18;", "return 17;") if older == "fewer arguments" else loop)
+    former = {"no sizes": "size_of_section", "no numbers of arguments": "arguments_of_plane"}
+    defined = [f"-D{former[older]}=former"] if older in former else []
+    subprocess.run(["gcc", "-shared", "-fPIC", "-I", tmp_path, *defined, "-o", tmp_path / "older.so", tmp_path / "loop.c", tmp_path / "stubs.c"], check=True)
     program = "import cicelybeam.library; cicelybeam.library.library()"
     done = subprocess.run(["/usr/bin/python3", "-c", program], capture_output=True, text=True,
                           env={"CICELYBEAM_LIBRARY": str(tmp_path / "older.so"), "PATH": "/usr/bin", "PYTHONPATH": str(ROOT / "python")})

@@ -213,8 +213,9 @@ def test_cells_in_the_plane(by, way, points, number):
     """By one call each, by direction and by normal. Of two crossings each, some are divided."""
     points = np.ascontiguousarray(points, dtype=float)
     origin, given, conn, written = np.zeros(2), np.array(way, dtype=float), np.arange(4), np.empty(24)
+    ways = (True,) if by == "normal" else ()
     told: Line = getattr(library(), f"cicelybeam_plane_cell_by_{by}")(
-        8, conn.ctypes.data, 4, points.ctypes.data, 8, origin.ctypes.data, 2, given.ctypes.data, 2, 0.0, written.ctypes.data, 24)
+        8, conn.ctypes.data, 4, points.ctypes.data, 8, origin.ctypes.data, 2, given.ctypes.data, 2, *ways, 0.0, written.ctypes.data, 24)
     assert (told.refusal, told.defaulted) == (0, number) and number == by_default(points, (0, 0), (0, 1), 0)
 
 

@@ -119,7 +119,7 @@ def test_counts_are_the_librarys(kind, origin, normal):
         numbers, nodes, ends = np.empty(144), np.empty(36, np.uint32), np.empty(12, np.uint32)
         s: Section = library().cicelybeam_plane(
             block.kind.number, cell.ctypes.data, cell.size, mesh.points.ctypes.data, mesh.points.size, o.ctypes.data, 3, n.ctypes.data, 3,
-            False, cut.record.tolerance, numbers.ctypes.data, 144, nodes.ctypes.data, 36, ends.ctypes.data, 12)
+            cut.asked.scaled, False, cut.record.tolerance, numbers.ctypes.data, 144, nodes.ctypes.data, 36, ends.ctypes.data, 12)
         if s.listed:
             counts[k] = [s.listed, s.in_loops, s.pinched, s.flat, s.open]
     assert counts == dict(zip(cut.cells.tolist(), cut.counts.tolist()))
@@ -299,9 +299,12 @@ def test_infinite_coordinates():
 
 
 @pytest.mark.parametrize("length", [1e200, 1e-160])
-def test_normals_that_do_not_become_unit(cube, length):
-    with pytest.raises(cicelybeam.CicelybeamError, match="too large or too small"):
-        cicelybeam.cut_plane(cube, (0, 0, 0.5), (0, 0, length))
+def test_vectors_that_do_not_become_unit(cube, length):
+    """A normal is scaled, where that is not left out; a direction is not."""
+    with pytest.raises(cicelybeam.CicelybeamError, match="too large or too small: its squares cannot be added up; leave scaled=False out, or scale it to about 1"):
+        cicelybeam.cut_plane(cube, (0, 0, 0.5), (0, 0, length), scaled=False)
+    with pytest.raises(cicelybeam.CicelybeamError, match="too large or too small: its squares cannot be added up; scale it to about 1"):
+        cicelybeam.cut_line(cube, (0, 0, 0.5), (0, 0, length))
 
 
 @pytest.mark.parametrize("nodes,area", [

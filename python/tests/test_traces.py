@@ -34,12 +34,12 @@ def polyhedron(faces, points=CUBE) -> meshio.Mesh:
     return meshio.Mesh(points, [("polyhedron8", [[np.array(face) for face in faces]])])
 
 
-def gather_call(mesh, number, conn, origin, normal, tol, room=6 * 256) -> tuple[Line, np.ndarray]:
+def gather_call(mesh, number, conn, origin, normal, tol, room=6 * 256, scaled=True) -> tuple[Line, np.ndarray]:
     """One call of cicelybeam_gather."""
     o, n, conn = np.array(origin, dtype=float), np.array(normal, dtype=float), np.ascontiguousarray(conn, dtype=np.int64)
     numbers = np.full(room, 7.0)
     told = library().cicelybeam_gather(number, conn.ctypes.data, conn.size, mesh.points.ctypes.data, mesh.points.size, o.ctypes.data, 3,
-                                       n.ctypes.data, 3, tol, numbers.ctypes.data, numbers.size)
+                                       n.ctypes.data, 3, scaled, tol, numbers.ctypes.data, numbers.size)
     assert (numbers[4 * told.segments :] == 7.0).all()
     return told, numbers[: 4 * told.segments]
 
@@ -267,7 +267,7 @@ def test_a_trace_whose_ends_become_one_point(tmp_path):
 
 def test_points_whose_sums_overflow():
     """numpy says nothing of them on the way into space and back."""
-    frame = place.plane((1.7e308, 1.7e308, 1.7e308), (1.0, 2.0, 3.0))
+    frame = place.plane((1.7e308, 1.7e308, 1.7e308), (1.0, 2.0, 3.0), True)
     with warnings.catch_warnings():
         warnings.simplefilter("error")
         assert not np.isfinite(frame.in_space(np.full((1, 2), 1.7e308))).all()
