@@ -199,7 +199,7 @@ def cut_line(
     kept = [np.flatnonzero(sides.reached(block)) if leave_out else np.arange(len(block)) for block in found.blocks]
     segments, owner, defaulted = _segments(found, kept, call, room, (near, along, tol), progress)
     if found.dimension == 3:
-        section = cut_plane(found, near, frame.normal, tol, scaled=False, leave_out=leave_out)
+        section = cut_plane(found, near, frame.normal, tol, scaled=False, leave_out=leave_out)  # it is of length 1
         reached = _reached(found, place.sides(found.points, near, frame.v, tol))
         lacking = _lacking_in_space(section, reached, frame.v, owner, tol)
     else:

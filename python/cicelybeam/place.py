@@ -87,10 +87,8 @@ def unit_normal(normal: Vector, scaled: bool) -> Vector:
     """
     if not any(normal):
         raise Refused(6, detail="give a normal with a component other than 0")
-    if scaled:
-        return unit(scaled_normal(normal))
     mend = "leave scaled=False out, or scale it to about 1"
-    n = unit(normal, f"the squares of {normal} underflow to 0; {mend}")
+    n = unit(taken(normal, scaled), f"the squares of {normal} underflow to 0; {mend}")
     check_unit(normal, n, "normal", mend)
     return n
 

@@ -195,8 +195,10 @@ def cut_plane(
     """All cells of a space mesh cut by the plane through origin with this normal, which may be of any length but 0.
 
     The normal is scaled by a power of two before it is made unit; the record says by which where that matters. With `scaled=False` it is
-    taken as it is given, as mefikit takes it, and beyond about 1e154 or within about 1e-154, where its squares overflow or lose
-    digits, it is refused, or a few digits of its unit normal are wrong. Elsewhere both are the same. The tolerance is the distance up to which a point counts as on the plane and two points as one; by default the
+    taken as it is given, as mefikit takes it: beyond about 1e154, or with all components within about 1.5e-154, its squares overflow or
+    lose digits, and it is refused or the last digits of its unit normal are wrong.
+
+    The tolerance is the distance up to which a point counts as on the plane and two points as one; by default the
     mesh's own. With `strict` a polygon that passes twice through a point is not drawn: its edges are counted as pinched, and its area
     is told as lost. Without, it is cut there into rings. With `shift` the cut is by the nearest parallel plane by which everything is drawn, up to `shift_most` away (by
     default 1e-6 of the mesh's extent); `record.shift` tells how far it is, or is 0 where there is none.

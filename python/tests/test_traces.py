@@ -73,8 +73,8 @@ def check(cut) -> None:
     for block in cut.mesh.blocks:
         for k in range(len(block)):
             conn, _ = block.handed(np.array([k]))
-            call = cut.near.origin, cut.asked.normal, cut.asked.tol
-            told, numbers = gather_call(cut.mesh, block.kind.number, conn, *call)
+            call, way = (cut.near.origin, cut.asked.normal, cut.asked.tol), {"scaled": cut.asked.scaled}
+            told, numbers = gather_call(cut.mesh, block.kind.number, conn, *call, **way)
             assert told.refusal == 0
             mine = slice(at, at + told.segments)
             assert traces.ends[mine].tobytes() == from_origin(cut, numbers).tobytes()
@@ -83,12 +83,12 @@ def check(cut) -> None:
             every = block.cells[k] if hasattr(block, "cells") else block.faces(k)
             for number, face in enumerate(every):
                 own = traces.ends[mine][traces.face[mine] == number]
-                _, alone = gather_call(cut.mesh, POLYHEDRON, face, *call)
+                _, alone = gather_call(cut.mesh, POLYHEDRON, face, *call, **way)
                 assert own.tobytes() == from_origin(cut, alone).tobytes()
                 if len(face) > 2 and np.isfinite(cut.mesh.points[face]).all():
                     assert alone.tobytes() == by_the_rules(cut, face).ravel().tobytes()
             s, *stitched = stitch_call(numbers, cut.asked.tol)
-            t, *whole = one_call(cut.mesh, block.kind.number, conn, *call)
+            t, *whole = one_call(cut.mesh, block.kind.number, conn, *call, **way)
             others = [name for name, _ in Section._fields_ if name != "defaulted"]
             assert [getattr(s, name) for name in others] == [getattr(t, name) for name in others]
             assert (s.defaulted, t.defaulted) == (0, told.defaulted)
