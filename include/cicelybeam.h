@@ -173,9 +173,9 @@ struct cicelybeam_tolerance {
  * multiplied by the power of two that brings its greatest absolute component to at least 1 and under 2, each
  * component being the exact product rounded once. Its norm is then proved to be from 1 to 4, so it is not refused
  * for its length. A normal of zeros is not scaled and is refused with 6, and so is one with a component that is
- * NaN or infinite. Scale normals that were worked out, by a cross product or a division by a determinant; take
- * them as given to have what mefikit has. Where no square overflows or underflows, both give the same. Directions
- * are not scaled. */
+ * NaN or infinite; no other is. Scale normals that were worked out, by a cross product or a division by a
+ * determinant; take them as given to have what mefikit has. Where no square overflows or underflows in either
+ * way, the two have had the same answer in every run. Directions are not scaled. */
 
 /* A space cell cut by the plane through origin with this normal, scaled unless scaled is 0, in the strict way
  * unless strict is 0. Points are given in the plane, from origin. Refuses 1 to 7. */

@@ -35,8 +35,9 @@
 //! may be of any length: it is first multiplied by the power of two that brings its greatest absolute component to at least 1
 //! and under 2, each component being the exact product rounded once. Its norm is then from 1 to 4, so it is not refused
 //! for its length. A normal of zeros is not scaled and is refused with [`Refusal::NoDirection`], and so is one with a component
-//! that is NaN or infinite. Scale normals that were worked out, by a cross product or a division by a determinant; take them as
-//! given to have what mefikit has. Where no square overflows or underflows, both give the same. Directions are not scaled.
+//! that is NaN or infinite; no other is. Scale normals that were worked out, by a cross product or a division by a determinant;
+//! take them as given to have what mefikit has. Where no square overflows or underflows in either way, the two have had the same
+//! answer in every run. Directions are not scaled.
 //!
 //! ```
 //! use cicelybeam::{cut_by_plane, SpaceType};

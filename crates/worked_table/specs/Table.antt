@@ -1,6 +1,6 @@
 -- The starred cases of docs/RULES.md as one table: what is asked, and what is answered there. Definitions only; that the definitions of the
 -- crates answer so is `worked`, in proofs/Table.antt.
-use Rattle.std.specs.Prelude.{◌≡◌, true, false, cond, ℕ, ◌/◌, pos, negsuc, length, Float, Option, Some, None}
+use Rattle.std.specs.Prelude.{◌≡◌, true, false, cond, ℕ, ◌/◌, pos, negsuc, length, Float, Option, Some}
 use mathlib.Core.List.{List, [], ◌∷◌, ◌++◌, flatten, map}
 use Rattle.std.specs.Float.{nan, inf, fin, binary64, float_is_finite}
 use Rattle.std.specs.Float.Ieee.{mul}
@@ -11,8 +11,8 @@ use Rattle.vector.specs.Rows.{Seg, seg, segs}
 use Rattle.rows.specs.Outcome.{Outcome, refused, found, told_count}
 use Rattle.vector.specs.Tolerance.{tolerance, tolerance_of}
 use Rattle.vector.specs.Scaled.{scaled_normal, units_in}
-use Rattle.cell.specs.Types.{space_type}
-use Rattle.cell.specs.Faces.{Face, faces_of, kept, separator, stretches}
+use Rattle.cell.specs.Types.{plane_type, space_type}
+use Rattle.cell.specs.Faces.{Face, faces_of, from, kept, separator, stretches}
 use Rattle.cell.specs.Read.{Cell, are_rows, cell, numbered_in_space, read_as}
 use Rattle.cell.specs.Claims.{faces_as}
 use Rattle.cell.specs.declared.types.Shape.TheVariants.{Phed}
@@ -27,9 +27,11 @@ use Rattle.stitch.specs.Entry.{Lengths, stitch_alone}
 use Rattle.stitch.specs.Comparisons.{stitch_comparisons}
 use Rattle.cuts.specs.Cuts.{through, through_by}
 use Rattle.cuts.specs.declared.Scaling.TheVariants.{Scaled}
+use Rattle.cuts.specs.declared.Way.TheVariants.{Normal}
 use Rattle.plane_cut.specs.PlaneCut.{plane_cut}
 use Rattle.plane_cut.specs.Comparisons.{plane_comparisons}
 use Rattle.gather.specs.Gather.{face_alone, gather_cut}
+use Rattle.plane_cell.specs.PlaneCell.{plane_cell_cut}
 
 -- ---- what is asked, and how it is answered
 
@@ -40,6 +42,8 @@ pub data Asked : Type 0 where
   plane : ℕ → List ℕ → List Float → List Float → List Float → Asked
   -- the same by a scaled normal
   plane_scaled : ℕ → List ℕ → List Float → List Float → List Float → Asked
+  -- the line cut of a cell in the plane, by a scaled normal
+  line_scaled : ℕ → List ℕ → List Float → List Float → List Float → Asked
   -- a normal scaled
   scale : List Float → Asked
   -- gathering of the same, and of each face handed over alone
@@ -100,10 +104,11 @@ all_shown xs tol =
 -- by the definitions, in the usual way or the strict one, in buffers of the sizes that docs/RULES.md gives for 24 face corners, or for the
 -- segments; the way counts for plane cuts and stitching alone
 unfoldable pub answered : Strictness → Asked → Answered
-unfolding flatten stretches kept space_type read_as are_rows least_aligned_axis unit units_in float_is_finite dot_from tolerance plane_section_segments defaulted mul stitched_within points_from becomes edges_from comparisons_from walks_from area2_from repeated
+unfolding flatten from stretches kept plane_type space_type read_as are_rows least_aligned_axis unit units_in float_is_finite dot_from tolerance plane_section_segments defaulted mul stitched_within points_from becomes edges_from comparisons_from walks_from area2_from repeated
 answered strictness (faces c) = positions (faces_of Phed c)
 answered strictness (plane t c xs o n) = with_areas (plane_cut (cell t c xs) (through o n) strictness f0 in_24)
 answered strictness (plane_scaled t c xs o n) = with_areas (plane_cut (cell t c xs) (through_by Scaled o n) strictness f0 in_24)
+answered strictness (line_scaled t c xs o n) = segments (plane_cell_cut Normal (cell t c xs) (through_by Scaled o n) f0 18) []
 answered strictness (scale n) = vector (scaled_normal n)
 answered strictness (gather t c xs o n) =
     let k = cell t c xs in
@@ -184,12 +189,25 @@ tiny = fin false 1 (negsuc 1073)
 abbrev minus_tiny : Float
 minus_tiny = fin true 1 (negsuc 1073)
 
-abbrev minus_half : Float
-minus_half = fin true 1 (negsuc 0)
+abbrev f1e200 : Float
+f1e200 = fin false 2941796710330669 (pos 613)
 
--- the greatest power of two
+-- the greatest power of two, and the numbers that beside it become 2^-1075, the middle between 0 and 2^-1074, and one just above
 abbrev huge : Float
 huge = fin false 1 (pos 1023)
+
+abbrev middle : Float
+middle = fin false 1 (negsuc 51)
+
+abbrev over_middle : Float
+over_middle = fin false 4503599627370497 (negsuc 103)
+
+-- 2^1000
+abbrev far : Float
+far = fin false 1 (pos 1000)
+
+abbrev long_triangle : List Float
+long_triangle = f0 ∷ f0 ∷ far ∷ f0 ∷ f0 ∷ f1 ∷ []
 
 -- the brick: HEX8 on the unit cube
 abbrev brick : List ℕ
@@ -211,9 +229,9 @@ level c = f0 ∷ f0 ∷ c ∷ []
 abbrev up : List Float
 up = f0 ∷ f0 ∷ f1 ∷ []
 
--- along z with this length
-abbrev upright : Float → List Float
-upright l = f0 ∷ f0 ∷ l ∷ []
+-- along x with this length
+abbrev along_x : Float → List Float
+along_x l = l ∷ f0 ∷ f0 ∷ []
 
 -- the segments from each point of a list to the next, in numbers
 abbrev along : List Vector → List Float
@@ -308,17 +326,17 @@ table =
     (stitched (answer tie_points ((4 ∷ 1 ∷ 2 ∷ 3 ∷ 1 ∷ 0 ∷ []) ∷ (5 ∷ 6 ∷ 7 ∷ []) ∷ []) 9 9 0 0) tie_walks)
     (stitched (answer_with tie_points ((5 ∷ 6 ∷ 7 ∷ []) ∷ []) 9 3 6 0 0) tie_walks)
     -- 19
-    ∷ case (plane 14 brick cube (level half) (upright huge)) (sectioned (answer [] [] 0 0 0 0) [])
-    ∷ case (plane 14 brick cube (level half) (upright tiny)) (sectioned (refused 6) [])
-    ∷ case (plane_scaled 14 brick cube (level half) (upright huge)) square
-    ∷ case (plane_scaled 14 brick cube (level half) (upright tiny)) square
-    ∷ case (plane_scaled 14 brick cube (level half) (upright f0)) (sectioned (refused 6) [])
-    ∷ case (plane_scaled 14 brick cube (level half) (upright (inf false))) (sectioned (refused 6) [])
-    ∷ case (scale (inf false ∷ f0 ∷ [])) (vector None)
-    ∷ case (scale (f0 ∷ f0 ∷ [])) (vector (Some (f0 ∷ f0 ∷ [])))
-    ∷ case (scale (fin false 3 (negsuc 1073) ∷ minus_tiny ∷ [])) (vector (Some (fin false 3 (negsuc 0) ∷ minus_half ∷ [])))
-    ∷ case (scale (huge ∷ fin false 11 (negsuc 53) ∷ [])) (vector (Some (f1 ∷ tiny ∷ [])))
-    ∷ case (scale (huge ∷ fin false 3 (negsuc 51) ∷ [])) (vector (Some (f1 ∷ fin false 1 (negsuc 1072) ∷ [])))
+    ∷ case (plane_scaled 14 brick cube (along_x half) (along_x f1)) square
+    ∷ case (plane_scaled 14 brick cube (along_x half) (along_x f1e200)) square
+    ∷ case (plane_scaled 14 brick cube (along_x half) (along_x tiny)) square
+    ∷ case (plane_scaled 14 brick cube (along_x half) (along_x f0)) (sectioned (refused 6) [])
+    ∷ case (plane_scaled 14 brick cube (along_x half) (along_x (inf false))) (sectioned (refused 6) [])
+    ∷ case (plane_scaled 14 brick cube (along_x half) (f1 ∷ nan ∷ f0 ∷ [])) (sectioned (refused 6) [])
+    ∷ case (line_scaled 5 (0 ∷ 1 ∷ 2 ∷ []) long_triangle O (inf false ∷ f1 ∷ [])) (segments (refused 6) [])
+    ∷ case (scale (middle ∷ huge ∷ [])) (vector (Some (f0 ∷ f1 ∷ [])))
+    ∷ case (line_scaled 5 (0 ∷ 1 ∷ 2 ∷ []) long_triangle O (middle ∷ huge ∷ [])) (segments (found (seg O (pt far f0) ∷ [])) [])
+    ∷ case (scale (over_middle ∷ huge ∷ [])) (vector (Some (tiny ∷ f1 ∷ [])))
+    ∷ case (line_scaled 5 (0 ∷ 1 ∷ 2 ∷ []) long_triangle O (over_middle ∷ huge ∷ [])) (segments (found []) [])
     ∷ []
 
 -- the definitions answer each case as docs/RULES.md does, in the usual way and in the strict one
