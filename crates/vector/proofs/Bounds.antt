@@ -1,18 +1,17 @@
--- Floats whose sizes lie between bounds, counted in 256ths: between which bounds products, sums, differences, quotients and square roots
--- of such floats lie. Assumes nothing.
+-- Floats whose sizes lie between bounds, counted in 256ths: between which bounds products, sums, differences and square roots of such
+-- floats lie. Assumes nothing.
 use Rattle.std.proofs.Common.{◌≡◌, ℕ, suc, ◌+◌, ◌-◌, ◌*◌, ◌^◌, ◌<◌, ◌≤◌, Bool, true, false, not, ◌&&◌, T, ltb, ◌⊎◌, sym, refl, ap, ◌∙◌, subst, inl, inr, true≢false, le_trans, le_of_mul-le-mul_right, mul-le-mul, mul-le-mul_right, mul-pos, lt_of_lt_of_le, lt_of_le_of_lt, arith, lit≤, pow-add, pow_mono, shl_lt, lt-ltb, le-ltb}
 use mathlib.Core.Path.{ap₂}
-use native.Mathlib.Nat.{eq_of_mul-eq-mul_right, mul-sub}
-use lib.Ieee.{Float, nan, inf, fin, Format, binary32, binary64, prec, emax, low, unlike, up, down, round, sum, neg, add, sub, mul, div, fits}
+use native.Mathlib.Nat.{mul-sub}
+use lib.Ieee.{Float, nan, inf, fin, Format, binary32, binary64, prec, emax, low, unlike, up, down, round, sum, neg, add, sub, mul, fits}
 use lib.Ieee.Digits.{back}
-use lib.Ieee.Fits.{down_pos, reach, round-fits, up_pos}
+use lib.Ieee.Fits.{down_pos, reach, round-fits}
 use lib.Ieee.Exact.{HasValue, round_exact}
 use lib.Ieee.Order.{round_mono}
-use lib.Ieee.Positive.{first_pos}
-use lib.Ieee.Scale.{round_same}
-use Rattle.std.proofs.lemmas.Bool.{cases_lt, ne_eqb}
+use Rattle.std.proofs.lemmas.Bool.{cases_lt}
 use Rattle.root.specs.Root.{Rounded, sqrt_of}
 use Rattle.root.proofs.Correct.{square_root}
+use Rattle.vector.specs.Number.{f0}
 use Rattle.vector.proofs.Counts.{count, count_at, counted_value, one, one_pos, two_fractions, values_le}
 use Rattle.vector.proofs.Rounding.{product, round_sign, round_under, sum_of}
 
@@ -32,6 +31,17 @@ within f s lo hi n x v p q =
       most = subst (λ (k : ℕ). 256 * k ≤ hi * one f) e q;
     }
 
+pub wider : (f : Format) (s : Bool) (lo hi lo' hi' : ℕ) (x : Float) → Within f s lo hi x → lo' ≤ lo → hi ≤ hi' → Within f s lo' hi' x
+wider f s lo hi lo' hi' x w p q =
+    record {
+      value = w.value;
+      least = omega (arith, w.least, mul-le-mul_right (one f) p);
+      most = omega (arith, w.most, mul-le-mul_right (one f) q);
+    }
+
+pub zero_within : (f : Format) → Within f false 0 0 f0
+zero_within f = within f false 0 0 0 f0 (refl, omega arith) (omega arith) (omega arith)
+
 -- ---- bounds that are used are floats
 pub few : (f : Format) (k : ℕ) → k < 4096 → k < 2 ^ prec f
 few binary32 k h = le_trans h (lit≤ tt)
@@ -41,7 +51,11 @@ eight : (f : Format) → 8 ≤ low f
 eight binary32 = lit≤ tt
 eight binary64 = lit≤ tt
 
-part_value : (f : Format) (k : ℕ) → k < 2 ^ prec f → HasValue (round f false k 256) false k 256
+-- k / 256 as a float
+abbrev part : Format → ℕ → Float
+part f k = round f false k 256
+
+part_value : (f : Format) (k : ℕ) → k < 2 ^ prec f → HasValue (part f k) false k 256
 part_value f k h =
     let j = low f - 8 in
     let e : 2 ^ low f ≡ 2 ^ j * 256 = ap (λ (z : ℕ). 2 ^ z) (sym (back (low f) 8 (eight f))) ∙ pow-add 2 j 8 in
@@ -49,33 +63,32 @@ part_value f k h =
     lt_of_lt_of_le (shl_lt (prec f) j h) (pow_mono (omega (arith, reach f, eight f))) in
     round_exact f false k 256 k j (omega arith) h fine (omega (arith, ap (λ (z : ℕ). k * z) e))
 
+part_counted : (f : Format) (k : ℕ) → k < 2 ^ prec f → HasValue (part f k) false (count f (part f k)) (one f)
+part_counted f k h = counted_value f (part f k) false k 256 (round-fits f false k 256) (part_value f k h)
+
+part_count : (f : Format) (k : ℕ) → k < 2 ^ prec f → count f (part f k) * 256 ≡ k * one f
+part_count f k h = two_fractions (part f k) false false (count f (part f k)) (one f) k 256 (part_counted f k h) (part_value f k h)
+
 -- ---- what is rounded from a fraction a / c between them
 module _ (f : Format) (s : Bool) (lo hi a c : ℕ) (C : 0 < c) (h : hi < 2 ^ prec f) (p : lo * c ≤ 256 * a) (q : 256 * a ≤ hi * c) where
   abbrev r : Float
   r = round f false a c
 
-  abbrev end : Float
-  end = round f false hi 256
-
-  end_value : HasValue end false (count f end) (one f)
-  end_value = counted_value f end false hi 256 (round-fits f false hi 256) (part_value f hi h)
-
-  under_end : HasValue r false (count f r) (one f) × (count f r ≤ count f end)
-  under_end = round_under f a c hi 256 (count f end) C (omega arith) (omega (arith, q)) end_value
+  under_end : HasValue r false (count f r) (one f) × (count f r ≤ count f (part f hi))
+  under_end = round_under f a c hi 256 (count f (part f hi)) C (omega arith) (omega (arith, q)) (part_counted f hi h)
 
   lower : lo < 2 ^ prec f
   lower = lt_of_le_of_lt (le_of_mul-le-mul_right {k = c} (le_trans p q) C) h
 
   over_start : lo * one f ≤ count f r * 256
   over_start =
-      values_le (round f false lo 256) r lo 256 (count f r) (one f) (omega arith) (one_pos f) (part_value f lo lower) under_end.0
+      values_le (part f lo) r lo 256 (count f r) (one f) (omega arith) (one_pos f) (part_value f lo lower) under_end.0
       (round_mono f lo 256 a c (omega arith) C (omega (arith, p)))
 
   pub rounds : Within f s lo hi (round f s a c)
   rounds =
       within f s lo hi (count f r) (round f s a c) (round_sign f s a c (count f r) (one f) under_end.0)
-      (omega (arith, over_start))
-      (omega (arith, under_end.1, two_fractions end false false (count f end) (one f) hi 256 end_value (part_value f hi h)))
+      (omega (arith, over_start)) (omega (arith, under_end.1, part_count f hi h))
 
 -- ---- products
 product_least : (k lo lo' a b L : ℕ) → 256 * k ≤ lo * lo' → lo * L ≤ 256 * a → lo' * L ≤ 256 * b → k * (L * L) ≤ 256 * (a * b)
@@ -189,29 +202,6 @@ any_minus f s t lo hi lo' hi' x y p q h =
     any_plus f s (not t) lo hi lo' hi' x (neg y) p
     (within f (not t) lo' hi' (count f y) (neg y) (opposite f y t (count f y) q.value) q.least q.most) h
 
--- ---- quotients, of two fractions with one divisor
-quotient_fraction : (X Y E G a b c : ℕ) → 0 < c → X * c ≡ a * E → Y * c ≡ b * G → X * G * b ≡ a * (Y * E)
-quotient_fraction X Y E G a b c C p q =
-    eq_of_mul-eq-mul_right c C (X * G * b) (a * (Y * E)) (omega (arith, ap (λ (z : ℕ). z * (G * b)) p, ap (λ (z : ℕ). z * (a * E)) q))
-
-divisor_pos : (n d g b c : ℕ) → 0 < b → 0 < g → n * d * c ≡ b * g → 0 < n
-divisor_pos n d g b c B G e = first_pos n d (first_pos (n * d) c (subst (λ (z : ℕ). 0 < z) (sym e) (mul-pos B G)))
-
-pub quotient : (f : Format) (x y : Float) (s t : Bool) (a b c : ℕ) → 0 < b → 0 < c → HasValue x s a c → HasValue y t b c
-    → div f x y ≡ round f (unlike s t) a b
-unfolding div
-quotient f nan y s t a b c B C v w = absurd v
-quotient f (inf u) y s t a b c B C v w = absurd v
-quotient f (fin u m e) nan s t a b c B C v w = absurd w
-quotient f (fin u m e) (inf u') s t a b c B C v w = absurd w
-quotient f (fin u m e) (fin u' n d) s t a b c B C v w =
-    let n_pos = divisor_pos n (up d) (down d) b c B (down_pos d) w.1 in
-    let test = ne_eqb n 0 (λ (z : n ≡ 0). omega (arith, n_pos)) in
-    let pos : 0 < n * up d * down e = mul-pos (mul-pos n_pos (up_pos d)) (down_pos e) in
-    let same = quotient_fraction (m * up e) (n * up d) (down e) (down d) a b c C v.1 w.1 in
-    let signs = ap₂ (λ (i j : Bool). round f (unlike i j) a b) v.0 w.0 in
-    rw test (round_same f (unlike u u') (m * up e * down d) (n * up d * down e) a b pos B same ∙ signs)
-
 -- ---- square roots
 root_rounded : (f : Format) (d : Float) (n : ℕ) → T (fits f d) → HasValue d false n (one f) → Rounded f d (sqrt_of f d)
 root_rounded f nan n h v = absurd v
@@ -219,46 +209,45 @@ root_rounded f (inf s) n h v = absurd v
 root_rounded f (fin true m e) n h v = absurd (true≢false v.0)
 root_rounded f (fin false m e) n h v = (square_root f).rounded m e h
 
-not_above : (r n K k lo L : ℕ) → r < K → 4 * (n * L) < (r + K) * (r + K) → K * 256 ≡ k * L → k * k ≤ 256 * lo → lo * L ≤ 256 * n → ⊥
-not_above r n K k lo L l g e h p =
+-- where K is k / 256: no root under K is rounded from K * K or more, and none above it from K * K or less
+not_under : (r n K k L : ℕ) → r < K → 4 * (n * L) < (r + K) * (r + K) → K * 256 ≡ k * L → k * k * L ≤ 65536 * n → ⊥
+not_under r n K k L l g e h =
     let u : r + K ≤ 2 * K = omega arith in
     let w : K * 256 * (K * 256) ≡ k * L * (k * L) = ap₂ (λ (i j : ℕ). i * j) e e in
-    omega (arith, mul-le-mul u u, w, mul-le-mul_right (L * L) h, mul-le-mul_right L p)
+    omega (arith, mul-le-mul u u, w, mul-le-mul_right L h)
 
--- the root of a size of lo / 256 at least is k / 256 at least, if that is so of the exact roots
-module _ (f : Format) (lo hi k : ℕ) (d : Float) (held : T (fits f d)) (w : Within f false lo hi d) (K : k < 2 ^ prec f)
-    (h : k * k ≤ 256 * lo) where
-  abbrev root : Float
-  root = sqrt_of f d
+not_above : (r n K k L : ℕ) → K < r → (r + K) * (r + K) < 4 * (n * L) → K * 256 ≡ k * L → 65536 * n ≤ k * k * L → ⊥
+not_above r n K k L l g e h =
+    let u : 2 * K ≤ r + K = omega arith in
+    let w : K * 256 * (K * 256) ≡ k * L * (k * L) = ap₂ (λ (i j : ℕ). i * j) e e in
+    omega (arith, mul-le-mul u u, w, mul-le-mul_right L h)
 
-  abbrev rounded : Rounded f d root
+-- the root is k / 256 at least and l / 256 at most, if that is so of the exact roots
+module _ (f : Format) (lo hi k l : ℕ) (d : Float) (held : T (fits f d)) (w : Within f false lo hi d) (K : k < 2 ^ prec f)
+    (L : l < 2 ^ prec f) (below : k * k ≤ 256 * lo) (above : 256 * hi ≤ l * l) where
+  abbrev rounded : Rounded f d (sqrt_of f d)
   rounded = root_rounded f d (count f d) held w.value
 
-  abbrev goal : Float
-  goal = round f false k 256
+  same : count f d ≡ rounded.n
+  same = count_at f d false rounded.n rounded.operand
 
-  goal_value : HasValue goal false (count f goal) (one f)
-  goal_value = counted_value f goal false k 256 (round-fits f false k 256) (part_value f k K)
-
-  goal_count : count f goal * 256 ≡ k * one f
-  goal_count = two_fractions goal false false (count f goal) (one f) k 256 goal_value (part_value f k K)
-
-  reached : (rounded.ρ < count f goal) ⊎ (count f goal ≤ rounded.ρ) → count f goal ≤ rounded.ρ
-  reached (inr g) = g
-  reached (inl g) =
-      let same : rounded.n ≡ count f d = sym (count_at f d false rounded.n rounded.operand) in
+  least : (rounded.ρ < count f (part f k)) ⊎ (count f (part f k) ≤ rounded.ρ) → k * one f ≤ 256 * rounded.ρ
+  least (inr g) = omega (arith, part_count f k K)
+  least (inl g) =
       absurd
-      (not_above rounded.ρ (count f d) (count f goal) k lo (one f) g
-      (subst (λ (z : ℕ). 4 * (z * one f) < (rounded.ρ + count f goal) * (rounded.ρ + count f goal)) same
-      (rounded.above goal (count f goal) (round-fits f false k 256) goal_value g))
-      goal_count h w.least)
+      (not_under rounded.ρ rounded.n (count f (part f k)) k (one f) g
+      (rounded.above (part f k) (count f (part f k)) (round-fits f false k 256) (part_counted f k K) g) (part_count f k K)
+      (omega (arith, same, w.least, mul-le-mul_right (one f) below)))
 
-  same_root : count f root ≡ rounded.ρ
-  same_root = count_at f root false rounded.ρ rounded.result
+  most : (count f (part f l) < rounded.ρ) ⊎ (rounded.ρ ≤ count f (part f l)) → 256 * rounded.ρ ≤ l * one f
+  most (inr g) = omega (arith, part_count f l L)
+  most (inl g) =
+      absurd
+      (not_above rounded.ρ rounded.n (count f (part f l)) l (one f) g
+      (rounded.below (part f l) (count f (part f l)) (round-fits f false l 256) (part_counted f l L) g) (part_count f l L)
+      (omega (arith, same, w.most, mul-le-mul_right (one f) above)))
 
-  root_value : HasValue root false (count f root) (one f)
-  root_value = subst (λ (n : ℕ). HasValue root false n (one f)) (sym same_root) rounded.result
-
-  pub root_least : HasValue root false (count f root) (one f) × (k * one f ≤ 256 * count f root)
-  root_least =
-      (root_value, omega (arith, goal_count, same_root, reached (cases_lt rounded.ρ (count f goal))))
+  pub root : Within f false k l (sqrt_of f d)
+  root =
+      within f false k l rounded.ρ (sqrt_of f d) rounded.result (least (cases_lt rounded.ρ (count f (part f k))))
+      (most (cases_lt (count f (part f l)) rounded.ρ))

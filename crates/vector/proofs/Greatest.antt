@@ -1,13 +1,14 @@
--- `magnitude` of floats that are counted in units is a float of their format, and its count is the greatest of theirs. Assumes nothing.
-use Rattle.std.proofs.Common.{◌≡◌, ℕ, zero, suc, ◌+◌, ◌*◌, ◌<◌, ◌≤◌, max, Bool, true, false, cond, T, ltb, ◌⊎◌, List, [], ◌∷◌, map, ℤ, sym, refl, ◌∙◌, subst, inl, inr, mul-le-mul_left, mul-le-mul_right, mul-lt-mul_of_pos_right, zero-mul, arith, lt-ltb, le-ltb, true≢false}
-use lib.Ieee.{Float, nan, inf, fin, Format, up, down, fits, lt, neg}
+-- The count of `magnitude` is the greatest of its floats' counts, and of f64s it is an f64. Assumes nothing.
+use Rattle.std.proofs.Common.{◌≡◌, ℕ, zero, suc, ◌+◌, ◌*◌, ◌<◌, ◌≤◌, max, true, false, T, ◌⊎◌, List, [], ◌∷◌, map, ℤ, sym, refl, ◌∙◌, subst, inl, inr, mul-le-mul_left, zero-mul, arith, lt-ltb, le-ltb, true≢false}
+use lib.Ieee.{Float, nan, inf, fin, Format, binary64, up, down, fits, lt, neg}
 use lib.Ieee.Fits.{cond-fits, neg-fits, up_pos}
 use lib.Ieee.Exact.{HasValue}
 use Rattle.std.proofs.lemmas.Bool.{cases_lt}
-use Rattle.std.specs.Float.Order.{lt_at}
 use Rattle.vector.specs.Number.{f0, abs}
+use Rattle.std.specs.Float.{float_is_finite}
+use Rattle.vector.specs.Scaled.{finite, Held}
 use Rattle.vector.specs.Tolerance.{greater, greatest_from, magnitude}
-use Rattle.vector.proofs.Counts.{count, count_at, Counted, one, one_pos}
+use Rattle.vector.proofs.Counts.{count, count_at, counted, Counted, lt_by_count, one, zero_value}
 
 -- the greatest count in a list
 abbrev pub most : Format → List Float → ℕ
@@ -19,21 +20,31 @@ abbrev pub AllCounted : Format → List Float → Type 0
 AllCounted f [] = Unit {0}
 AllCounted f (x ∷ a) = Counted f x × AllCounted f a
 
+pub all_counted : (a : List Float) → Held a → finite a ≡ true → AllCounted binary64 a
+unfolding float_is_finite
+all_counted [] h k = tt
+all_counted (nan ∷ a) h k = absurd cc
+all_counted (inf s ∷ a) h k = absurd cc
+all_counted (fin s m e ∷ a) h k = (counted binary64 (fin s m e) h.0 tt, all_counted a h.1 k)
+
+-- and the greatest is at least 1 and under 2
+pub record CountedInRange (f : Format) (a : List Float) : Type 0 where
+  pub each : AllCounted f a
+  pub at_least_one : one f ≤ most f a
+  pub under_two : most f a < 2 * one f
+
 -- ---- the greater of two
--- of a float with k units and the size of one with n
-module _ (f : Format) (g : Float) (k : ℕ) (h : HasValue g false k (one f)) where
-  pick : (x : Float) (n : ℕ) (b : Bool) → lt g x ≡ b → HasValue x false n (one f) → (k < n) ⊎ (n ≤ k)
-      → HasValue (cond b x g) false (max k n) (one f)
-  pick x n b e v (inl l) =
-      let t : ltb (k * one f) (n * one f) ≡ b = sym (lt_at g x k (one f) n (one f) (one_pos f) (one_pos f) h v) ∙ e in
-      let u : b ≡ true = sym t ∙ lt-ltb _ _ (mul-lt-mul_of_pos_right l (one_pos f)) in
-      let m : max k n ≡ n = omega arith in
-      rw (u, m) v
-  pick x n b e v (inr l) =
-      let t : ltb (k * one f) (n * one f) ≡ b = sym (lt_at g x k (one f) n (one f) (one_pos f) (one_pos f) h v) ∙ e in
-      let u : b ≡ false = sym t ∙ le-ltb _ _ (mul-le-mul_right (one f) l) in
-      let m : max k n ≡ k = omega arith in
-      rw (u, m) h
+-- of a float of k units and one of n
+greater_of : (f : Format) (g x : Float) (k n : ℕ) → HasValue g false k (one f) → HasValue x false n (one f) → (k < n) ⊎ (n ≤ k)
+    → HasValue (greater g x) false (max k n) (one f)
+greater_of f g x k n h v (inl l) =
+    let u : lt g x ≡ true = lt_by_count f g x k n h v ∙ lt-ltb k n l in
+    let m : max k n ≡ n = omega arith in
+    rw (u, m) v
+greater_of f g x k n h v (inr l) =
+    let u : lt g x ≡ false = lt_by_count f g x k n h v ∙ le-ltb k n l in
+    let m : max k n ≡ k = omega arith in
+    rw (u, m) h
 
 -- ---- the absolute value
 pub plus_not_below : (m : ℕ) (e : ℤ) → lt (fin false m e) f0 ≡ false
@@ -65,13 +76,13 @@ greater_value f g k nan h v = absurd v
 greater_value f g k (inf t) h v = absurd v
 greater_value f g k (fin false m e) h v =
     let n = count f (fin false m e) in
-    rw (plus_not_below m e) (pick f g k h (fin false m e) n (lt g (fin false m e)) refl v (cases_lt k n))
+    rw (plus_not_below m e) (greater_of f g (fin false m e) k n h v (cases_lt k n))
 greater_value f g k (fin true zero e) h v =
     let z : max k (count f (fin true 0 e)) ≡ k = omega (arith, count_at f (fin true 0 e) true 0 (refl, omega arith)) in
     rw (minus_zero_not_below e, not_below_minus g k (one f) 0 e h) (subst (λ (n : ℕ). HasValue g false n (one f)) (sym z) h)
 greater_value f g k (fin true (suc m) e) h v =
     let n = count f (fin true (suc m) e) in
-    rw (minus_below m e) (pick f g k h (fin false (suc m) e) n (lt g (fin false (suc m) e)) refl (refl, v.1) (cases_lt k n))
+    rw (minus_below m e) (greater_of f g (fin false (suc m) e) k n h (refl, v.1) (cases_lt k n))
 
 -- ---- of a list
 pub greatest_value : (f : Format) (g : Float) (k : ℕ) (a : List Float) → HasValue g false k (one f) → AllCounted f a
@@ -82,32 +93,25 @@ greatest_value f g k (x ∷ a) h c =
     let e : max k (max (count f x) (most f a)) ≡ max (max k (count f x)) (most f a) = omega arith in
     rw e (greatest_value f (greater g (abs x)) (max k (count f x)) a (greater_value f g k x h c.0) c.1)
 
-zero_value : (f : Format) → HasValue f0 false 0 (one f)
-zero_value f = (refl, omega arith)
-
 pub magnitude_value : (f : Format) (a : List Float) → AllCounted f a → HasValue (magnitude a) false (most f a) (one f)
 unfolding magnitude
 magnitude_value f a c = subst (λ (n : ℕ). HasValue (magnitude a) false n (one f)) (omega arith) (greatest_value f f0 0 a (zero_value f) c)
 
--- ---- it is a float of the format
--- each is one
-abbrev pub AllFit : Format → List Float → Type 0
-AllFit f [] = Unit {0}
-AllFit f (x ∷ a) = T (fits f x) × AllFit f a
-
-abs_fits : (f : Format) (x : Float) → T (fits f x) → T (fits f (abs x))
+-- ---- it is an f64
+abs_fits : (x : Float) → T (fits binary64 x) → T (fits binary64 (abs x))
 unfolding abs
-abs_fits f x h = cond-fits f (lt x f0) (neg x) x (neg-fits f x h) h
+abs_fits x h = cond-fits binary64 (lt x f0) (neg x) x (neg-fits binary64 x h) h
 
-greatest_fits : (f : Format) (g : Float) (a : List Float) → T (fits f g) → AllFit f a → T (fits f (greatest_from g (map abs a)))
+greatest_fits : (g : Float) (a : List Float) → T (fits binary64 g) → Held a → T (fits binary64 (greatest_from g (map abs a)))
 unfolding greatest_from
-greatest_fits f g [] h c = h
-greatest_fits f g (x ∷ a) h c = greatest_fits f (greater g (abs x)) a (cond-fits f (lt g (abs x)) (abs x) g (abs_fits f x c.0) h) c.1
+greatest_fits g [] h c = h
+greatest_fits g (x ∷ a) h c =
+    greatest_fits (greater g (abs x)) a (cond-fits binary64 (lt g (abs x)) (abs x) g (abs_fits x c.0) h) c.1
 
-zero_fits : (f : Format) → T (fits f f0)
+pub zero_fits : T (fits binary64 f0)
 unfolding fits
-zero_fits f = tt
+zero_fits = tt
 
-pub magnitude_fits : (f : Format) (a : List Float) → AllFit f a → T (fits f (magnitude a))
+pub magnitude_fits : (a : List Float) → Held a → T (fits binary64 (magnitude a))
 unfolding magnitude
-magnitude_fits f a c = greatest_fits f f0 a (zero_fits f) c
+magnitude_fits a c = greatest_fits f0 a zero_fits c

@@ -1,13 +1,12 @@
 -- The seed axis without its part along a vector, for one whose component along that axis is 3/4 at most and whose others are 2 at most:
 -- its norm is above 0, whatever is rounded off. Assumes nothing.
-use Rattle.std.proofs.Common.{ℕ, ◌+◌, ◌-◌, ◌*◌, ◌≤◌, Bool, true, false, cond, refl, mul-le-mul_right, arith}
+use Rattle.std.proofs.Common.{ℕ, ◌+◌, ◌-◌, ◌*◌, ◌≤◌, Bool, true, false, cond, refl, arith}
 use lib.Ieee.{Float, Format, unlike, add, sub, mul}
-use lib.Ieee.Exact.{HasValue}
 use Rattle.root.specs.Root.{sqrt_of}
 use Rattle.vector.specs.Number.{f0, f1}
-use Rattle.vector.proofs.Bounds.{any_minus, any_plus, few, root_least, square, times, Within, within}
-use Rattle.vector.proofs.Counts.{count, one}
-use Rattle.vector.proofs.LeastComponent.{squares, three, three_fits, three_within, zero_within}
+use Rattle.vector.proofs.Bounds.{any_minus, any_plus, few, root, square, times, Within, within, wider, zero_within}
+use Rattle.vector.proofs.Counts.{one}
+use Rattle.vector.proofs.LeastComponent.{squares, three, three_fits, three_within}
 
 one_within : (f : Format) → Within f false 256 256 f1
 one_within f = within f false 256 256 (one f) f1 (refl, omega arith) (omega arith) (omega arith)
@@ -49,18 +48,15 @@ left_square f b s t x d p q =
     squared false = omega arith
 
 -- ---- a sum of three with any signs
-from_zero : (f : Format) (s : Bool) (n hi top : ℕ) (x : Float) → Within f s (0 - n) hi x → hi ≤ top → Within f s 0 top x
-from_zero f s n hi top x w h = record { value = w.value; least = omega arith; most = omega (arith, w.most, mul-le-mul_right (one f) h) }
-
 dot_within : (f : Format) (i j k : ℕ) (s t u : Bool) (x y z : Float) → Within f s 0 i x → Within f t 0 j y → Within f u 0 k z
     → i + j + k ≤ 192 → (v : Bool) × Within f v 0 192 (three f x y z)
 dot_within f i j k s t u x y z p q r h =
     let a = any_plus f false s 0 0 0 i f0 x (zero_within f) p (few f (0 + i) (omega arith)) in
-    let a' = from_zero f a.0 i (0 + i) i (add f f0 x) a.1 (omega arith) in
+    let a' = wider f a.0 (0 - i) (0 + i) 0 i (add f f0 x) a.1 (omega arith) (omega arith) in
     let b = any_plus f a.0 t 0 i 0 j (add f f0 x) y a' q (few f (i + j) (omega arith)) in
-    let b' = from_zero f b.0 j (i + j) (i + j) (add f (add f f0 x) y) b.1 (omega arith) in
+    let b' = wider f b.0 (0 - j) (i + j) 0 (i + j) (add f (add f f0 x) y) b.1 (omega arith) (omega arith) in
     let c = any_plus f b.0 u 0 (i + j) 0 k (add f (add f f0 x) y) z b' r (few f (i + j + k) (omega arith)) in
-    (c.0, from_zero f c.0 k (i + j + k) 192 (three f x y z) c.1 h)
+    (c.0, wider f c.0 (0 - k) (i + j + k) 0 192 (three f x y z) c.1 (omega arith) h)
 
 -- ---- three components, each along the axis or not
 -- the dot product of the axis and the vector, and the norm of what is left of the axis
@@ -74,7 +70,7 @@ rest f b c e x y z = let d = dot_of f b c e x y z in sqrt_of f (squares f (left 
 pub rest_least : (f : Format) (b c e s t u : Bool) (x y z : Float)
     → Within f s 0 (bound b) x → Within f t 0 (bound c) y → Within f u 0 (bound e) z
     → cond b 192 0 + cond c 192 0 + cond e 192 0 ≤ 192 → 49 ≤ 0 + cond b 49 0 + cond c 49 0 + cond e 49 0
-    → HasValue (rest f b c e x y z) false (count f (rest f b c e x y z)) (one f) × (64 * one f ≤ 256 * count f (rest f b c e x y z))
+    → Within f false 64 1024 (rest f b c e x y z)
 rest_least f b c e s t u x y z p q r one_axis least =
     let i = mul f (along b) x in
     let j = mul f (along c) y in
@@ -87,5 +83,5 @@ rest_least f b c e s t u x y z p q r one_axis least =
     let n = left f e z d in
     let v = three_within f (cond b 49 0) 625 (cond c 49 0) 625 (cond e 49 0) 625 (mul f l l) (mul f m m) (mul f n n)
     (left_square f b s w.0 x d p w.1) (left_square f c t w.0 y d q w.1) (left_square f e u w.0 z d r w.1) (omega arith) in
-    root_least f (0 + cond b 49 0 + cond c 49 0 + cond e 49 0) 1875 64 (squares f l m n)
-    (three_fits f (mul f l l) (mul f m m) (mul f n n)) v (few f 64 (omega arith)) (omega arith)
+    root f (0 + cond b 49 0 + cond c 49 0 + cond e 49 0) 1875 64 1024 (squares f l m n)
+    (three_fits f (mul f l l) (mul f m m) (mul f n n)) v (few f 64 (omega arith)) (few f 1024 (omega arith)) (omega arith) (omega arith)

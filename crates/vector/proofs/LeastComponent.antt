@@ -1,14 +1,14 @@
 -- Of three components divided by their norm, which is 1 at least, one is 3/4 at most in size, whatever is rounded off. Assumes nothing.
-use Rattle.std.proofs.Common.{ℕ, ◌+◌, ◌*◌, ◌/◌, ◌<◌, ◌≤◌, Bool, false, T, ◌⊎◌, refl, inl, inr, mul-le-mul_right, arith}
+use Rattle.std.proofs.Common.{ℕ, ◌+◌, ◌*◌, ◌/◌, ◌<◌, ◌≤◌, Bool, false, T, ◌⊎◌, inl, inr, mul-le-mul_right, arith}
 use native.Mathlib.Nat.{div-mul-le_self, lt-div-mul-add, le-div_iff_mul-le, div-lt_iff_lt-mul}
 use lib.Ieee.{Float, Format, add, mul, fits}
 use lib.Ieee.Fits.{add-fits}
-use lib.Ieee.Exact.{HasValue}
 use Rattle.std.proofs.lemmas.Bool.{cases_lt}
 use Rattle.root.specs.Root.{sqrt_of}
 use Rattle.vector.specs.Number.{f0}
-use Rattle.vector.proofs.Bounds.{few, plus, root_least, square, Within, within}
+use Rattle.vector.proofs.Bounds.{few, plus, root, Within, zero_within}
 use Rattle.vector.proofs.Counts.{count, one, one_pos}
+use Rattle.vector.proofs.Norms.{square_under_four}
 
 -- the sum of three, from plus zero
 abbrev pub three : Format → Float → Float → Float → Float
@@ -16,9 +16,6 @@ three f x y z = add f (add f (add f f0 x) y) z
 
 pub three_fits : (f : Format) (x y z : Float) → T (fits f (three f x y z))
 three_fits f x y z = add-fits f (add f (add f f0 x) y) z
-
-pub zero_within : (f : Format) → Within f false 0 0 f0
-zero_within f = within f false 0 0 0 f0 (refl, omega arith) (omega arith) (omega arith)
 
 pub three_within : (f : Format) (i j k l m n : ℕ) (x y z : Float) → Within f false i j x → Within f false k l y → Within f false m n z
     → j + l + n < 4096 → Within f false (0 + i + k + m) (0 + j + l + n) (three f x y z)
@@ -31,12 +28,6 @@ three_within f i j k l m n x y z p q r h =
 abbrev pub squares : Format → Float → Float → Float → Float
 squares f x y z = three f (mul f x x) (mul f y y) (mul f z z)
 
-component_square : (f : Format) (s : Bool) (k : ℕ) (x : Float) → Within f s 0 512 x → k * one f ≤ 16 * count f x
-    → Within f false (k * k) 1024 (mul f x x)
-component_square f s k x p h =
-    square f s (16 * k) 512 (k * k) 1024 x (record { value = p.value; least = omega (arith, h); most = p.most })
-    (few f 1024 (omega arith)) (omega arith) (omega arith)
-
 -- a norm n between k / 12 and (k + 1) / 12 is not 24 * k / 256 at least, for a k that is 12 at least
 no_length : (n k L : ℕ) → 0 < L → 12 * n < k * L + L → 12 ≤ k → 24 * k * L ≤ 256 * n → ⊥
 no_length n k L P g t r = omega (arith, mul-le-mul_right L t)
@@ -45,20 +36,6 @@ no_length n k L P g t r = omega (arith, mul-le-mul_right L t)
 module _ (f : Format) (s t u : Bool) (x y z : Float) (p : Within f s 0 512 x) (q : Within f t 0 512 y) (r : Within f u 0 512 z) where
   abbrev norm_of : Float
   norm_of = sqrt_of f (squares f x y z)
-
-  abbrev held : T (fits f (squares f x y z))
-  held = three_fits f (mul f x x) (mul f y y) (mul f z z)
-
-  total : (k : ℕ) → k * one f ≤ 16 * count f x → k * one f ≤ 16 * count f y → k * one f ≤ 16 * count f z
-      → Within f false (0 + k * k + k * k + k * k) (0 + 1024 + 1024 + 1024) (squares f x y z)
-  total k a b c =
-      three_within f (k * k) 1024 (k * k) 1024 (k * k) 1024 (mul f x x) (mul f y y) (mul f z z)
-      (component_square f s k x p a) (component_square f t k y q b) (component_square f u k z r c) (omega arith)
-
-  pub norm_value : HasValue norm_of false (count f norm_of) (one f)
-  norm_value =
-      let w = total 0 (omega arith) (omega arith) (omega arith) in
-      (root_least f 0 3072 0 (squares f x y z) held w (few f 0 (omega arith)) (omega arith)).0
 
   -- not each is over 3/4 of the norm
   not_three : one f ≤ count f norm_of → 3 * count f norm_of < 4 * count f x → 3 * count f norm_of < 4 * count f y
@@ -72,10 +49,14 @@ module _ (f : Format) (s t u : Bool) (x y z : Float) (p : Within f s 0 512 x) (q
       let hi : 12 * n < k * L + L = lt-div-mul-add P in
       let at_least : 12 ≤ k = (le-div_iff_mul-le P).1 (omega arith) in
       let under : k < 32 = (div-lt_iff_lt-mul P).1 (omega (arith, p.most)) in
-      let w = total k (omega arith) (omega arith) (omega arith) in
+      let w = three_within f (k * k) 1024 (k * k) 1024 (k * k) 1024 (mul f x x) (mul f y y) (mul f z z)
+      (square_under_four f s k x p (omega arith)) (square_under_four f t k y q (omega arith)) (square_under_four f u k z r (omega arith))
+      (omega arith) in
       let g : 24 * k * (24 * k) ≤ 256 * (0 + k * k + k * k + k * k) = omega arith in
       no_length n k L P hi at_least
-      (root_least f (0 + k * k + k * k + k * k) 3072 (24 * k) (squares f x y z) held w (few f (24 * k) (omega arith)) g).1
+      (root f (0 + k * k + k * k + k * k) 3072 (24 * k) 1024 (squares f x y z)
+      (three_fits f (mul f x x) (mul f y y) (mul f z z)) w
+      (few f (24 * k) (omega arith)) (few f 1024 (omega arith)) g (omega arith)).least
 
   pub one_under : one f ≤ count f norm_of
       → (4 * count f x ≤ 3 * count f norm_of) ⊎ (4 * count f y ≤ 3 * count f norm_of) ⊎ (4 * count f z ≤ 3 * count f norm_of)

@@ -9,12 +9,11 @@ pub mod Rounding
 pub mod Greatest
 pub mod Scaling
 pub mod Multiples
+pub mod Power
 pub mod Bounds
+pub mod Norms
 pub mod LeastComponent
 pub mod SeedAxis
 pub mod Leaning
-pub mod Norms
-pub mod Zeros
 pub mod ScaledNormals
 pub mod ScaledPlanes
-pub mod Power

@@ -1,10 +1,10 @@
--- Vectors that are a power of two times another, exactly: their counts, and that times the power for the greatest they are the same.
--- Assumes nothing.
-use Rattle.std.proofs.Common.{◌≡◌, ℕ, suc, ◌+◌, ◌*◌, ◌^◌, ◌<◌, ◌≤◌, max, Bool, true, T, [], ◌∷◌, map, ℤ, pos, negsuc, sym, refl, ap, ◌∙◌, subst, inl, inr, le_of_eq, lt_of_lt_of_le, le_trans, mul-le-mul_right, le_of_mul-le-mul_right, mul-lt-mul_of_pos_right, mul-pos, arith, pow_pos, pow-add}
+-- Vectors that are a power of two times another, exactly: their counts are as many times greater, and times the powers for their greatest
+-- counts both are the same. Assumes nothing.
+use Rattle.std.proofs.Common.{◌≡◌, ℕ, suc, ◌+◌, ◌*◌, ◌^◌, ◌<◌, ◌≤◌, max, Bool, true, T, [], ◌∷◌, map, ℤ, pos, negsuc, sym, refl, ap, ◌∙◌, subst, inl, inr, le_of_eq, lt_of_lt_of_le, le_trans, mul-le-mul_right, mul-lt-mul_of_pos_right, mul-pos, arith, pow_pos, pow-add}
 use mathlib.Core.Path.{ap₂}
 use native.Mathlib.Nat.{eq_of_mul-eq-mul_right}
 use lib.Ieee.{Float, nan, inf, fin, Format, binary64, up, down, mul, fits}
-use lib.Ieee.Fits.{down_pos, up_pos}
+use lib.Ieee.Fits.{down_pos}
 use lib.Ieee.Exact.{HasValue}
 use lib.Ieee.Scale.{round_same}
 use Rattle.std.specs.Float.{float_is_finite}
@@ -14,69 +14,30 @@ use Rattle.vector.specs.Vector.{Vector}
 use Rattle.vector.specs.Scaled.{EachTimesPower, finite, Held}
 use Rattle.vector.proofs.Counts.{count, counted, counted_value, one, two_fractions}
 use Rattle.vector.proofs.Greatest.{most}
-use Rattle.vector.proofs.Scaling.{power_for, times_power}
+use Rattle.vector.proofs.Scaling.{power_for, power_times}
 
 -- ---- a float and its multiple, in units
 counts_fraction : (X E L n k u d : ℕ) → 0 < E → X * L ≡ n * E → X * u * L ≡ k * (E * d) → k * d ≡ n * u
 counts_fraction X E L n k u d p h g = eq_of_mul-eq-mul_right E p (k * d) (n * u) (omega (arith, g, ap (λ (z : ℕ). z * u) h))
 
-module _ (f : Format) (j : ℤ) (s : Bool) (m : ℕ) (e : ℤ) (y : Float) (h : T (fits f (fin s m e))) (k : T (fits f y))
-    (v : HasValue y s (m * up e * up j) (down e * down j)) where
-  pub multiple_value : HasValue y s (count f y) (one f)
-  multiple_value = counted_value f y s (m * up e * up j) (down e * down j) k v
+multiple_count : (f : Format) (j : ℤ) (s : Bool) (m : ℕ) (e : ℤ) (y : Float) → T (fits f (fin s m e)) → T (fits f y)
+    → HasValue y s (m * up e * up j) (down e * down j) → count f y * down j ≡ count f (fin s m e) * up j
+multiple_count f j s m e y h k v =
+    counts_fraction (m * up e) (down e) (one f) (count f (fin s m e)) (count f y) (up j) (down j) (down_pos e)
+    (counted f (fin s m e) h tt).1
+    (two_fractions y s s (m * up e * up j) (down e * down j) (count f y) (one f) v
+    (counted_value f y s (m * up e * up j) (down e * down j) k v))
 
-  pub multiple_count : count f y * down j ≡ count f (fin s m e) * up j
-  multiple_count =
-      counts_fraction (m * up e) (down e) (one f) (count f (fin s m e)) (count f y) (up j) (down j) (down_pos e)
-      (counted f (fin s m e) h tt).1
-      (two_fractions y s s (m * up e * up j) (down e * down j) (count f y) (one f) v multiple_value)
+-- ---- the greater of two counts
+max_times : (i n u : ℕ) → max i n * u ≡ max (i * u) (n * u)
+max_times i n u =
+    elim (cases_lt i n) [
+      | inl g ↦ let a : max i n ≡ n = omega arith in rw a (omega (arith, mul-le-mul_right u g))
+      | inr g ↦ let a : max i n ≡ i = omega arith in rw a (omega (arith, mul-le-mul_right u g))
+    ]
 
--- ---- the greatest count
-module _ (u d : ℕ) (D : 0 < d) where
-  max_multiple : (i n k l : ℕ) → k * d ≡ i * u → l * d ≡ n * u → max k l * d ≡ max i n * u
-  max_multiple i n k l p q =
-      elim (cases_lt i n) [
-        | inl g ↦
-            let w : k ≤ l = le_of_mul-le-mul_right {k = d} (omega (arith, mul-le-mul_right u g)) D in
-            let a : max k l ≡ l = omega arith in
-            let b : max i n ≡ n = omega arith in
-            rw (a, b) q
-        | inr g ↦
-            let w : l ≤ k = le_of_mul-le-mul_right {k = d} (omega (arith, mul-le-mul_right u g)) D in
-            let a : max k l ≡ k = omega arith in
-            let b : max i n ≡ i = omega arith in
-            rw (a, b) p
-      ]
-
-pub most_multiple : (j : ℤ) (a b : Vector) → Held a → EachTimesPower j a b → most binary64 b * down j ≡ most binary64 a * up j
-most_multiple j [] [] h t = omega arith
-most_multiple j [] (y ∷ b) h t = absurd t
-most_multiple j (x ∷ a) [] h t = absurd t
-most_multiple j (nan ∷ a) (y ∷ b) h t = absurd t.0
-most_multiple j (inf s ∷ a) (y ∷ b) h t = absurd t.0
-most_multiple j (fin s m e ∷ a) (y ∷ b) h t =
-    max_multiple (up j) (down j) (down_pos j) (count binary64 (fin s m e)) (most binary64 a) (count binary64 y) (most binary64 b)
-    (multiple_count binary64 j s m e y h.0 t.0.0 t.0.1) (most_multiple j a b h.1 t.1)
-
--- ---- they are held and finite
-pub multiples_held : (j : ℤ) (a b : Vector) → EachTimesPower j a b → Held b
-multiples_held j [] [] t = tt
-multiples_held j [] (y ∷ b) t = absurd t
-multiples_held j (x ∷ a) [] t = absurd t
-multiples_held j (nan ∷ a) (y ∷ b) t = absurd t.0
-multiples_held j (inf s ∷ a) (y ∷ b) t = absurd t.0
-multiples_held j (fin s m e ∷ a) (y ∷ b) t = (t.0.0, multiples_held j a b t.1)
-
-pub multiples_finite : (j : ℤ) (a b : Vector) → EachTimesPower j a b → finite b ≡ true
-unfolding float_is_finite
-multiples_finite j [] [] t = refl
-multiples_finite j [] (y ∷ b) t = absurd t
-multiples_finite j (x ∷ a) [] t = absurd t
-multiples_finite j (nan ∷ a) (y ∷ b) t = absurd t.0
-multiples_finite j (inf s ∷ a) (y ∷ b) t = absurd t.0
-multiples_finite j (fin s m e ∷ a) (nan ∷ b) t = absurd t.0.1
-multiples_finite j (fin s m e ∷ a) (inf v ∷ b) t = absurd t.0.1
-multiples_finite j (fin s m e ∷ a) (fin v n g ∷ b) t = multiples_finite j a b t.1
+max_multiple : (u d i n k l : ℕ) → k * d ≡ i * u → l * d ≡ n * u → max k l * d ≡ max i n * u
+max_multiple u d i n k l p q = max_times k l d ∙ ap₂ max p q ∙ sym (max_times i n u)
 
 -- ---- their leading digits
 module _ (n p : ℕ) (lo : 2 ^ p ≤ n) (hi : n < 2 ^ suc p) where
@@ -100,28 +61,48 @@ places (negsuc t) n p k q lo hi l h e =
     rw (s, pow-add 2 q (suc t)) (omega arith)
 
 -- ---- times the power for each
-same_fraction : (n k u d P Q : ℕ) → 0 < u → 0 < d → k * d ≡ n * u → Q * d ≡ P * u → k * P ≡ n * Q
-same_fraction n k u d P Q U D h g =
-    eq_of_mul-eq-mul_right (d * u) (mul-pos D U) (k * P) (n * Q) (omega (arith, ap (λ (z : ℕ). z * (P * u)) h, ap (λ (z : ℕ). n * u * z) g))
+same_times : (f : Format) (j : ℤ) (p q : ℕ) → 2 ^ q * down j ≡ 2 ^ p * up j → (s : Bool) (m : ℕ) (e : ℤ) (y : Float)
+    → HasValue y s (m * up e * up j) (down e * down j)
+    → mul f (power_for f (suc q)) y ≡ mul f (power_for f (suc p)) (fin s m e)
+same_times f j p q h s m e y v =
+    let A = m * up e in
+    let E = down e in
+    let D : 0 < E * down j = mul-pos (down_pos e) (down_pos j) in
+    power_times f y s (A * up j) (E * down j) q D v
+    ∙ round_same f s (A * up j * one f) (2 ^ q * (E * down j)) (A * one f) (2 ^ p * E) (mul-pos (pow_pos q) D)
+    (mul-pos (pow_pos p) (down_pos e)) (omega (arith, ap (λ (z : ℕ). A * one f * E * z) h))
+    ∙ sym (power_times f (fin s m e) s A E p (down_pos e) (refl, refl))
 
-module _ (f : Format) (j : ℤ) (p q : ℕ) (h : 2 ^ q * down j ≡ 2 ^ p * up j) where
-  pub same_times : (x y : Float) (s : Bool) (n k : ℕ) → HasValue x s n (one f) → HasValue y s k (one f) → k * down j ≡ n * up j
-      → mul f (power_for f (suc q)) y ≡ mul f (power_for f (suc p)) x
-  same_times x y s n k v w e =
-      times_power f y s k q w
-      ∙ round_same f s k (2 ^ q) n (2 ^ p) (pow_pos q) (pow_pos p)
-      (same_fraction n k (up j) (down j) (2 ^ p) (2 ^ q) (up_pos j) (down_pos j) e h)
-      ∙ sym (times_power f x s n p v)
+-- ---- a vector that is 2 ^ j times another
+-- a finite vector of f64s whose greatest count is as much greater, and which times the power for each is the same
+pub record Multiple (j : ℤ) (a b : Vector) : Type 0 where
+  pub held : Held b
+  pub is_finite : finite b ≡ true
+  pub most_is : most binary64 b * down j ≡ most binary64 a * up j
+  pub alike : (p q : ℕ) → 2 ^ q * down j ≡ 2 ^ p * up j
+      → map (mul binary64 (power_for binary64 (suc q))) b ≡ map (mul binary64 (power_for binary64 (suc p))) a
 
-pub multiples_alike : (j : ℤ) (p q : ℕ) (a b : Vector) → 2 ^ q * down j ≡ 2 ^ p * up j → Held a → EachTimesPower j a b
-    → map (mul binary64 (power_for binary64 (suc q))) b ≡ map (mul binary64 (power_for binary64 (suc p))) a
-multiples_alike j p q [] [] g h t = refl
-multiples_alike j p q [] (y ∷ b) g h t = absurd t
-multiples_alike j p q (x ∷ a) [] g h t = absurd t
-multiples_alike j p q (nan ∷ a) (y ∷ b) g h t = absurd t.0
-multiples_alike j p q (inf s ∷ a) (y ∷ b) g h t = absurd t.0
-multiples_alike j p q (fin s m e ∷ a) (y ∷ b) g h t =
-    ap₂ (λ (z : Float) (c : Vector). z ∷ c)
-    (same_times binary64 j p q g (fin s m e) y s (count binary64 (fin s m e)) (count binary64 y) (counted binary64 (fin s m e) h.0 tt)
-    (multiple_value binary64 j s m e y h.0 t.0.0 t.0.1) (multiple_count binary64 j s m e y h.0 t.0.0 t.0.1))
-    (multiples_alike j p q a b g h.1 t.1)
+value_finite : (y : Float) (s : Bool) (a c : ℕ) → HasValue y s a c → float_is_finite y ≡ true
+unfolding float_is_finite
+value_finite nan s a c v = absurd v
+value_finite (inf t) s a c v = absurd v
+value_finite (fin t m e) s a c v = refl
+
+pub multiple : (j : ℤ) (a b : Vector) → Held a → EachTimesPower j a b → Multiple j a b
+multiple j [] [] h t = record { held = tt; is_finite = refl; most_is = omega arith; alike = λ p q g. refl }
+multiple j [] (y ∷ b) h t = absurd t
+multiple j (x ∷ a) [] h t = absurd t
+multiple j (nan ∷ a) (y ∷ b) h t = absurd t.0
+multiple j (inf s ∷ a) (y ∷ b) h t = absurd t.0
+multiple j (fin s m e ∷ a) (y ∷ b) h t =
+    let x = fin s m e in
+    let n = count binary64 x in
+    let k = count binary64 y in
+    let r = multiple j a b h.1 t.1 in
+    let is = multiple_count binary64 j s m e y h.0 t.0.0 t.0.1 in
+    record {
+      held = (t.0.0, r.held);
+      is_finite = rw (value_finite y s (m * up e * up j) (down e * down j) t.0.1) r.is_finite;
+      most_is = max_multiple (up j) (down j) n (most binary64 a) k (most binary64 b) is r.most_is;
+      alike = λ p q g. ap₂ (λ (z : Float) (c : Vector). z ∷ c) (same_times binary64 j p q g s m e y t.0.1) (r.alike p q g);
+    }

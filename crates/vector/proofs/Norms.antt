@@ -1,170 +1,75 @@
--- The norm of up to three components whose counts are under 2, one of them 1 at least: it lies from 1 to 4. Assumes nothing.
-use Rattle.std.proofs.Common.{◌≡◌, ℕ, suc, ◌+◌, ◌*◌, ◌^◌, ◌<◌, ◌≤◌, max, Bool, true, false, T, ◌⊎◌, List, [], ◌∷◌, length, sym, refl, ap, ◌∙◌, subst, inl, inr, true≢false, le_trans, mul-le-mul, mul-le-mul_right, mul-pos, arith, lit≤}
-use lib.Ieee.{Float, nan, inf, fin, Format, binary32, binary64, prec, unlike, round, add, mul, le, fits}
+-- The norm of up to three components that are under 2 in size, one of them 1 at least, is from 1 to 4; and of zeros the sum of squares is
+-- plus zero. Assumes nothing.
+use Rattle.std.proofs.Common.{◌≡◌, ℕ, suc, ◌+◌, ◌*◌, ◌<◌, ◌≤◌, max, Bool, false, T, ◌⊎◌, [], ◌∷◌, length, subst, inl, inr, arith}
+use lib.Ieee.{Float, Format, binary64, add, mul, fits}
 use lib.Ieee.Fits.{add-fits}
 use lib.Ieee.Exact.{HasValue}
-use lib.Ieee.Order.{le_of_values}
 use Rattle.std.proofs.lemmas.Bool.{cases_lt}
-use Rattle.root.specs.Root.{Rounded, sqrt_of}
-use Rattle.root.proofs.Correct.{square_root}
-use Rattle.vector.specs.Number.{f1}
-use Rattle.vector.specs.Scaled.{four}
-use Rattle.vector.specs.Vector.{dot_from}
-use Rattle.vector.proofs.Counts.{count, count_at, Counted, one, one_pos, sign}
-use Rattle.vector.proofs.Greatest.{AllCounted, most}
-use Rattle.vector.proofs.Rounding.{product, round_at_least, round_at_most, sum_of}
+use Rattle.vector.specs.Number.{f0}
+use Rattle.vector.specs.Vector.{dot, dot_from, norm, Vector}
+use Rattle.vector.proofs.Bounds.{few, plus, root, square, Within, wider, within, zero_within}
+use Rattle.vector.proofs.Counts.{count, Counted, one, one_pos, same_float, sign, zero_value}
+use Rattle.vector.proofs.Greatest.{AllCounted, CountedInRange, most, zero_fits}
 
--- s plus the squares, added from the left
-unfoldable pub squares_from : Format → Float → List Float → Float
-squares_from f s [] = s
-squares_from f s (x ∷ a) = squares_from f (add f s (mul f x x)) a
+pub under_two : (f : Format) (x : Float) → Counted f x → count f x < 2 * one f → Within f (sign x) 0 512 x
+under_two f x c h = record { value = c; least = omega arith; most = omega (arith, h) }
 
-pub dot_is : (s : Float) (a : List Float) → dot_from s a a ≡ squares_from binary64 s a
-unfolding dot_from squares_from
-dot_is s [] = refl
-dot_is s (x ∷ a) = dot_is (add binary64 s (mul binary64 x x)) a
+-- the square of one from k / 16 to 2
+pub square_under_four : (f : Format) (s : Bool) (k : ℕ) (x : Float) → Within f s 0 512 x → k * one f ≤ 16 * count f x
+    → Within f false (k * k) 1024 (mul f x x)
+square_under_four f s k x p h =
+    square f s (16 * k) 512 (k * k) 1024 x (record { value = p.value; least = omega (arith, h); most = p.most })
+    (few f 1024 (omega arith)) (omega arith) (omega arith)
 
--- ---- one square more
-square_sign : (s : Bool) → unlike s s ≡ false
-square_sign true = refl
-square_sign false = refl
+-- a k for the next component, of n units: 16 if it is 1 at least, and 0
+next : (lo n m L : ℕ) → (256 ≤ lo) ⊎ (L ≤ max n m) → (n < L) ⊎ (L ≤ n) → (k : ℕ) × (k * L ≤ 16 * n) × ((256 ≤ lo + k * k) ⊎ (L ≤ m))
+next lo n m L g (inr h) = (16, omega arith, inl (omega arith))
+next lo n m L (inl g) (inl h) = (0, omega arith, inl (omega arith))
+next lo n m L (inr g) (inl h) = (0, omega arith, inr (omega arith))
 
--- a sum of k squares, each of them 4 at most
-pub record SumOf (f : Format) (k : ℕ) (s : Float) : Type 0 where
-  pub held : T (fits f s)
-  pub value : HasValue s false (count f s) (one f)
-  pub bound : count f s ≤ 4 * k * one f
-
-room : (f : Format) (k : ℕ) → k ≤ 12 → k ≤ 2 ^ prec f
-room binary32 k h = le_trans h (lit≤ tt)
-room binary64 k h = le_trans h (lit≤ tt)
-
-four_at_most : (n L : ℕ) → n < 2 * L → n * n ≤ 4 * (L * L)
-four_at_most n L h = let g : n ≤ 2 * L = omega arith in omega (arith, mul-le-mul g g)
-
-module _ (f : Format) (k : ℕ) (s x : Float) (h : SumOf f k s) (c : Counted f x) (small : count f x < 2 * one f) (few : k + 1 ≤ 3) where
-  abbrev n : ℕ
-  n = count f x
-
-  abbrev L : ℕ
-  L = one f
-
-  square_pos : 0 < L * L
-  square_pos = mul-pos (one_pos f) (one_pos f)
-
-  square_is : mul f x x ≡ round f false (n * n) (L * L)
-  square_is =
-      product f x x (sign x) (sign x) n L n L (one_pos f) (one_pos f) c c
-      ∙ ap (λ (t : Bool). round f t (n * n) (L * L)) (square_sign (sign x))
-
-  square : HasValue (round f false (n * n) (L * L)) false (count f (round f false (n * n) (L * L))) L
-      × (count f (round f false (n * n) (L * L)) ≤ 4 * L)
-  square = round_at_most f (n * n) (L * L) 4 square_pos (room f 4 (omega arith)) (four_at_most n L small)
-
-  abbrev p : ℕ
-  p = count f (round f false (n * n) (L * L))
-
-  sum_is : add f s (mul f x x) ≡ round f false (count f s + p) L
-  sum_is =
-      ap (λ (z : Float). add f s z) square_is
-      ∙ sum_of f s (round f false (n * n) (L * L)) (count f s) p L (one_pos f) h.value square.0
-
-  summed : HasValue (round f false (count f s + p) L) false (count f (round f false (count f s + p) L)) L
-      × (count f (round f false (count f s + p) L) ≤ 4 * (k + 1) * L)
-  summed =
-      round_at_most f (count f s + p) L (4 * (k + 1)) (one_pos f) (room f (4 * (k + 1)) (omega arith)) (omega (arith, h.bound, square.1))
-
-  pub one_more : SumOf f (k + 1) (add f s (mul f x x))
-  one_more =
-      record {
-        held = add-fits f s (mul f x x);
-        value = subst (λ (z : Float). HasValue z false (count f z) L) (sym sum_is) summed.0;
-        bound = subst (λ (z : Float). count f z ≤ 4 * (k + 1) * L) (sym sum_is) summed.1;
-      }
-
-  -- it is 1 at least once a component is
-  pub one_reached : (L ≤ count f s) ⊎ (L ≤ n) → L ≤ count f (add f s (mul f x x))
-  one_reached w = subst (λ (z : Float). L ≤ count f z) (sym sum_is) (omega (arith, sum_reached (part w)))
-    where
-      part : (L ≤ count f s) ⊎ (L ≤ n) → L ≤ count f s + p
-      part (inl g) = omega arith
-      part (inr g) =
-          omega (arith, round_at_least f (n * n) (L * L) 1 p square_pos (room f 1 (omega arith)) (omega (arith, mul-le-mul g g)) square.0)
-
-      sum_reached : L ≤ count f s + p → 1 * L ≤ count f (round f false (count f s + p) L)
-      sum_reached g =
-          round_at_least f (count f s + p) L 1 (count f (round f false (count f s + p) L)) (one_pos f) (room f 1 (omega arith))
-          (omega arith) summed.0
-
--- ---- all of them
-pub sum_of_squares : (f : Format) (k : ℕ) (s : Float) (a : List Float) → SumOf f k s → AllCounted f a → most f a < 2 * one f
-    → k + length a ≤ 3 → SumOf f (k + length a) (squares_from f s a)
-unfolding squares_from
-sum_of_squares f k s [] h c m l = let e : k + 0 ≡ k = omega arith in rw e h
-sum_of_squares f k s (x ∷ a) h c m l =
-    let e : k + suc (length a) ≡ k + 1 + length a = omega arith in
+-- s plus the squares is 1 at least if s or a component is
+sum_within : (lo hi : ℕ) (s : Float) (a : Vector) → Within binary64 false lo hi s → AllCounted binary64 a
+    → most binary64 a < 2 * one binary64 → hi + 1024 * length a < 4096 → (256 ≤ lo) ⊎ (one binary64 ≤ most binary64 a)
+    → Within binary64 false 256 (hi + 1024 * length a) (dot_from s a a)
+unfolding dot_from
+sum_within lo hi s [] w c m l (inr g) = absurd (omega (arith, one_pos binary64))
+sum_within lo hi s [] w c m l (inl g) =
+    wider binary64 false lo hi 256 (hi + 1024 * 0) s w g (omega arith)
+sum_within lo hi s (x ∷ a) w c m l g =
+    let i = next lo (count binary64 x) (most binary64 a) (one binary64) g (cases_lt (count binary64 x) (one binary64)) in
+    let p = square_under_four binary64 (sign x) i.0 x (under_two binary64 x c.0 (omega arith)) i.1 in
+    let e : hi + 1024 * suc (length a) ≡ hi + 1024 + 1024 * length a = omega arith in
     rw e
-    (sum_of_squares f (k + 1) (add f s (mul f x x)) a (one_more f k s x h c.0 (omega arith) (omega arith)) c.1 (omega arith) (omega arith))
+    (sum_within (lo + i.0 * i.0) (hi + 1024) (add binary64 s (mul binary64 x x)) a
+    (plus binary64 lo hi (i.0 * i.0) 1024 s (mul binary64 x x) w p (few binary64 (hi + 1024) (omega arith))) c.1 (omega arith)
+    (omega arith) i.2)
 
-pub squares_reach : (f : Format) (k : ℕ) (s : Float) (a : List Float) → SumOf f k s → AllCounted f a → most f a < 2 * one f
-    → k + length a ≤ 3 → (one f ≤ count f s) ⊎ (one f ≤ most f a) → one f ≤ count f (squares_from f s a)
-unfolding squares_from
-squares_reach f k s [] h c m l (inl g) = g
-squares_reach f k s [] h c m l (inr g) = absurd (omega (arith, one_pos f))
-squares_reach f k s (x ∷ a) h c m l w =
-    squares_reach f (k + 1) (add f s (mul f x x)) a (one_more f k s x h c.0 (omega arith) (omega arith)) c.1
-    (omega arith) (omega arith) (next w)
-  where
-    next : (one f ≤ count f s) ⊎ (one f ≤ max (count f x) (most f a)) → (one f ≤ count f (add f s (mul f x x))) ⊎ (one f ≤ most f a)
-    next (inl g) = inl (one_reached f k s x h c.0 (omega arith) (omega arith) (inl g))
-    next (inr g) =
-        elim (cases_lt (most f a) (one f)) [
-          | inl u ↦ inl (one_reached f k s x h c.0 (omega arith) (omega arith) (inr (omega arith)))
-          | inr u ↦ inr u
-        ]
+dot_fits : (s : Float) (a : Vector) → T (fits binary64 s) → T (fits binary64 (dot_from s a a))
+unfolding dot_from
+dot_fits s [] h = h
+dot_fits s (x ∷ a) h = dot_fits (add binary64 s (mul binary64 x x)) a (add-fits binary64 s (mul binary64 x x))
 
--- ---- its root
-f1_fits : (f : Format) → T (fits f f1)
-unfolding fits
-f1_fits binary32 = tt
-f1_fits binary64 = tt
+pub norm_within : (a : Vector) → CountedInRange binary64 a → length a ≤ 3 → Within binary64 false 256 1024 (norm a)
+norm_within a c l =
+    root binary64 256 (0 + 1024 * length a) 256 1024 (dot a a) (dot_fits f0 a zero_fits)
+    (sum_within 0 0 f0 a (zero_within binary64) c.each c.under_two (omega arith) (inr c.at_least_one))
+    (few binary64 256 (omega arith)) (few binary64 1024 (omega arith)) (omega arith) (omega arith)
 
-four_fits : (f : Format) → T (fits f four)
-unfolding fits
-four_fits binary32 = tt
-four_fits binary64 = tt
+-- ---- of zeros
+zeros_within : (s : Float) (a : Vector) → Within binary64 false 0 0 s → AllCounted binary64 a → most binary64 a ≡ 0
+    → Within binary64 false 0 0 (dot_from s a a)
+unfolding dot_from
+zeros_within s [] w c e = w
+zeros_within s (x ∷ a) w c e =
+    let none = few binary64 0 (omega arith) in
+    let p = within binary64 (sign x) 0 0 (count binary64 x) x c.0 (omega arith) (omega arith) in
+    let q = square binary64 (sign x) 0 0 0 0 x p none (omega arith) (omega arith) in
+    zeros_within (add binary64 s (mul binary64 x x)) a (plus binary64 0 0 0 0 s (mul binary64 x x) w q none) c.1 (omega arith)
 
-not_less : (r n L : ℕ) → L ≤ n → r < L → 4 * (n * L) < (r + L) * (r + L) → ⊥
-not_less r n L h l g = let u : r + L ≤ 2 * L = omega arith in omega (arith, mul-le-mul u u, mul-le-mul_right L h)
-
-not_more : (r n L : ℕ) → n ≤ 12 * L → 4 * L < r → (r + 4 * L) * (r + 4 * L) < 4 * (n * L) → ⊥
-not_more r n L h l g = let u : 8 * L ≤ r + 4 * L = omega arith in omega (arith, mul-le-mul u u, mul-le-mul_right L h)
-
-between : (f : Format) (d : Float) (n : ℕ) → HasValue d false n (one f) → one f ≤ n → n ≤ 12 * one f → Rounded f d (sqrt_of f d)
-    → T (le f1 (sqrt_of f d)) × T (le (sqrt_of f d) four)
-between f d n v lo hi r =
-    let L = one f in
-    let least : L ≤ r.ρ = at_least (cases_lt r.ρ L) in
-    let greatest : r.ρ ≤ 4 * L = at_most (cases_lt (4 * L) r.ρ) in (
-      le_of_values f1 (sqrt_of f d) 1 1 r.ρ L (omega arith) (one_pos f) (refl, refl) r.result (omega arith),
-      le_of_values (sqrt_of f d) four r.ρ L 4 1 (one_pos f) (omega arith) r.result (refl, refl) (omega arith),
-    )
-  where
-    at_least : (r.ρ < one f) ⊎ (one f ≤ r.ρ) → one f ≤ r.ρ
-    at_least (inr g) = g
-    at_least (inl g) =
-        absurd (not_less r.ρ r.n (one f) (omega (arith, count_at f d false r.n r.operand, count_at f d false n v)) g
-        (r.above f1 (one f) (f1_fits f) (refl, omega arith) g))
-
-    at_most : (4 * one f < r.ρ) ⊎ (r.ρ ≤ 4 * one f) → r.ρ ≤ 4 * one f
-    at_most (inr g) = g
-    at_most (inl g) =
-        absurd (not_more r.ρ r.n (one f) (omega (arith, count_at f d false r.n r.operand, count_at f d false n v)) g
-        (r.below four (4 * one f) (four_fits f) (refl, omega arith) g))
-
-pub root_between : (f : Format) (d : Float) (n : ℕ) → T (fits f d) → HasValue d false n (one f) → one f ≤ n → n ≤ 12 * one f
-    → T (le f1 (sqrt_of f d)) × T (le (sqrt_of f d) four)
-root_between f nan n h v lo hi = absurd v
-root_between f (inf s) n h v lo hi = absurd v
-root_between f (fin true m e) n h v lo hi = absurd (true≢false v.0)
-root_between f (fin false m e) n h v lo hi = between f (fin false m e) n v lo hi ((square_root f).rounded m e h)
+-- the sum of their squares is plus zero
+pub zero_dot : (a : Vector) → AllCounted binary64 a → most binary64 a ≡ 0 → dot a a ≡ f0
+zero_dot a c e =
+    let w = zeros_within f0 a (zero_within binary64) c e in
+    let none : count binary64 (dot a a) ≡ 0 = omega (arith, w.most, one_pos binary64) in
+    same_float binary64 (dot a a) f0 false 0 (dot_fits f0 a zero_fits) zero_fits
+    (subst (λ (n : ℕ). HasValue (dot a a) false n (one binary64)) none w.value) (zero_value binary64)

@@ -1,22 +1,21 @@
 -- What specs/Scaled.antt states of planes: in the scaled way every normal of three finite numbers, one of them other than 0, has its plane,
 -- since neither the normal nor what is left of the seed axis is too short for its unit. Assumes nothing.
-use Rattle.std.proofs.Common.{◌≡◌, ℕ, suc, ◌+◌, ◌*◌, ◌<◌, ◌≤◌, Bool, true, false, cond, ◌⊎◌, [], ◌∷◌, map, Some, None, inl, inr, sym, refl, ap, ◌∙◌, subst, arith}
-use lib.Ieee.{Float, Format, binary64, unlike, mul, div, lt, le}
-use lib.Ieee.Bits.{is_true}
-use lib.Ieee.Exact.{HasValue}
-use Rattle.std.proofs.lemmas.Float.{T_from_true, lt_of_lt_of_le}
+use Rattle.std.proofs.Common.{◌≡◌, ℕ, suc, ◌+◌, ◌*◌, ◌<◌, ◌≤◌, Bool, true, false, cond, ◌⊎◌, [], ◌∷◌, map, Some, None, inl, inr, sym, refl, ap, ◌∙◌, subst, arith, mul-le-mul_right, mul-pos}
+use lib.Ieee.{Float, Format, binary64, unlike, mul, div, lt}
 use Rattle.std.specs.Option.{option_and_then}
 use Rattle.root.specs.Root.{sqrt_of}
-use Rattle.vector.specs.Number.{f0, f1}
+use Rattle.vector.specs.Number.{f0}
 use Rattle.vector.specs.Scaled.{PlaneFound, scaled}
 use Rattle.vector.specs.Vector.{cross, dot, dot_from, lean, least_aligned_axis, norm, plane_of, Vector, with_basis, with_normal, with_u}
 use Rattle.vector.specs.declared.Plane.{Plane}
-use Rattle.vector.proofs.Bounds.{few, quotient, rounds, Within}
-use Rattle.vector.proofs.Counts.{count, Counted, counted_of, one, one_pos, sign, values_le}
-use Rattle.vector.proofs.Greatest.{AllCounted, most}
+use Rattle.vector.proofs.Bounds.{few, rounds, Within}
+use Rattle.vector.proofs.Rounding.{quotient}
+use Rattle.vector.proofs.Counts.{count, count_above_zero, Counted, counted_of, one, one_pos, sign}
+use Rattle.vector.proofs.Greatest.{CountedInRange}
 use Rattle.vector.proofs.Leaning.{along, bound, rest, rest_least}
-use Rattle.vector.proofs.LeastComponent.{norm_value, one_under, squares}
-use Rattle.vector.proofs.ScaledNormals.{count_above_zero, norm_in_range, place, scaled_counts, scaled_is, scaled_under_two, zero_below_one}
+use Rattle.vector.proofs.LeastComponent.{one_under, squares}
+use Rattle.vector.proofs.Norms.{norm_within, under_two}
+use Rattle.vector.proofs.ScaledNormals.{place, scaled_counts, scaled_is}
 use Rattle.vector.proofs.Scaling.{power_for}
 use Rattle.vector.proofs.SeedAxis.{seed_axis}
 use Rattle.vector.proofs.Units.{unit_along}
@@ -36,7 +35,7 @@ plane_given o b h k =
           ∙ ap (λ w. with_basis o n (with_u n w)) (sym (unit_along l (dot l l) (norm l) refl refl k)),
     )
 
--- ---- components under 2 over a norm N that is 1 at least
+-- ---- components under 2 over their norm N
 module _ (f : Format) (x y z : Float) (p : Within f (sign x) 0 512 x) (q : Within f (sign y) 0 512 y) (r : Within f (sign z) 0 512 z) where
   abbrev N : Float
   N = sqrt_of f (squares f x y z)
@@ -44,18 +43,16 @@ module _ (f : Format) (x y z : Float) (p : Within f (sign x) 0 512 x) (q : Withi
   abbrev over : Float → Float
   over w = div f w N
 
-  module _ (least : one f ≤ count f N) where
-    N_value : HasValue N false (count f N) (one f)
-    N_value = norm_value f (sign x) (sign y) (sign z) x y z p q r
-
+  module _ (n : Within f false 256 1024 N) where
     -- one that is at most k / 256 of N stays so
     over_within : (w : Float) (k : ℕ) → Counted f w → k < 4096 → 256 * count f w ≤ k * count f N
         → Within f (unlike (sign w) false) 0 k (over w)
     over_within w k c h b =
-        let n_pos : 0 < count f N = omega (arith, one_pos f) in
+        let n_pos : 0 < count f N = omega (arith, n.least, one_pos f) in
         subst (Within f (unlike (sign w) false) 0 k)
-        (sym (quotient f w N (sign w) false (count f w) (count f N) (one f) n_pos (one_pos f) c N_value))
-        (rounds f (unlike (sign w) false) 0 k (count f w) (count f N) n_pos (few f k h) (omega arith) b)
+        (sym (quotient f w N (sign w) false (count f w) (one f) (count f N) (one f) (one_pos f) n_pos (one_pos f) c n.value))
+        (rounds f (unlike (sign w) false) 0 k (count f w * one f) (count f N * one f) (mul-pos n_pos (one_pos f)) (few f k h) (omega arith)
+        (omega (arith, mul-le-mul_right (one f) b)))
 
     own : (w : Float) → Within f (sign w) 0 512 w → Within f (unlike (sign w) false) 0 512 (over w)
     own w h = over_within w 512 h.value (omega arith) (omega (arith, h.most))
@@ -65,7 +62,7 @@ module _ (f : Format) (x y z : Float) (p : Within f (sign x) 0 512 x) (q : Withi
 
     one_short : (256 * count f (over x) ≤ 192 * one f) ⊎ (256 * count f (over y) ≤ 192 * one f) ⊎ (256 * count f (over z) ≤ 192 * one f)
     one_short =
-        elim (one_under f (sign x) (sign y) (sign z) x y z p q r least) [
+        elim (one_under f (sign x) (sign y) (sign z) x y z p q r (omega (arith, n.least))) [
           | inl b ↦ inl (short x p b)
           | inr (inl b) ↦ inr (inl (short y q b))
           | inr (inr b) ↦ inr (inr (short z r b))
@@ -84,7 +81,7 @@ module _ (s t u : Bool) (x y z : Float) where
   axis_left b c e p q r g h =
       let w = rest_least binary64 b c e s t u x y z p q r g h in
       let n = rest binary64 b c e x y z in
-      ap (lt f0) (lean_is b c e x y z) ∙ count_above_zero binary64 n (count binary64 n) w.0 (omega (arith, w.1, one_pos binary64))
+      ap (lt f0) (lean_is b c e x y z) ∙ count_above_zero binary64 n (count binary64 n) w.value (omega (arith, w.least, one_pos binary64))
 
   -- the least of them is 3/4 at most
   small : (v : Bool) (a : Float) → Within binary64 v 0 512 a → 256 * count binary64 a ≤ 192 * one binary64 → Within binary64 v 0 192 a
@@ -107,27 +104,21 @@ module _ (s t u : Bool) (x y z : Float) where
       by : {a b : Vector} → a ≡ b → lt f0 (norm (lean b (x ∷ y ∷ z ∷ []))) ≡ true → lt f0 (norm (lean a (x ∷ y ∷ z ∷ []))) ≡ true
       by k h = subst (λ (l : Vector). lt f0 (norm (lean l (x ∷ y ∷ z ∷ []))) ≡ true) (sym k) h
 
--- ---- a plane of three components whose greatest is under 2 and whose norm is 1 at least
-plane_of_three : (o : Vector) (x y z : Float) → AllCounted binary64 (x ∷ y ∷ z ∷ []) → most binary64 (x ∷ y ∷ z ∷ []) < 2 * one binary64
-    → le f1 (norm (x ∷ y ∷ z ∷ [])) ≡ true → (f : Plane) × (plane_of o (x ∷ y ∷ z ∷ []) ≡ Some f)
+-- ---- a plane of three components whose greatest is 1 at least and under 2
+plane_of_three : (o : Vector) (x y z : Float) → CountedInRange binary64 (x ∷ y ∷ z ∷ [])
+    → (f : Plane) × (plane_of o (x ∷ y ∷ z ∷ []) ≡ Some f)
 unfolding dot_from
-plane_of_three o x y z c m h =
+plane_of_three o x y z c =
     let n = norm (x ∷ y ∷ z ∷ []) in
-    let p = under_two x c.0 (omega arith) in
-    let q = under_two y c.1.0 (omega arith) in
-    let r = under_two z c.1.1.0 (omega arith) in
-    let value = norm_value binary64 (sign x) (sign y) (sign z) x y z p q r in
-    let one_at_most = T_from_true (le f1 n) h in
-    let least : one binary64 ≤ count binary64 n =
-    omega (arith, values_le f1 n 1 1 (count binary64 n) (one binary64) (omega arith) (one_pos binary64) (refl, refl) value one_at_most) in
-    plane_given o (x ∷ y ∷ z ∷ []) (is_true (lt f0 n) (lt_of_lt_of_le f0 f1 n zero_below_one one_at_most))
+    let m = c.under_two in
+    let p = under_two binary64 x c.each.0 (omega arith) in
+    let q = under_two binary64 y c.each.1.0 (omega arith) in
+    let r = under_two binary64 z c.each.1.1.0 (omega arith) in
+    let w = norm_within (x ∷ y ∷ z ∷ []) c (omega arith) in
+    plane_given o (x ∷ y ∷ z ∷ []) (count_above_zero binary64 n (count binary64 n) w.value (omega (arith, w.least, one_pos binary64)))
     (seed_left (unlike (sign x) false) (unlike (sign y) false) (unlike (sign z) false)
     (div binary64 x n) (div binary64 y n) (div binary64 z n)
-    (own binary64 x y z p q r least x p) (own binary64 x y z p q r least y q) (own binary64 x y z p q r least z r)
-    (one_short binary64 x y z p q r least))
-  where
-    under_two : (w : Float) → Counted binary64 w → count binary64 w < 2 * one binary64 → Within binary64 (sign w) 0 512 w
-    under_two w v b = record { value = v; least = omega arith; most = omega (arith, b) }
+    (own binary64 x y z p q r w x p) (own binary64 x y z p q r w y q) (own binary64 x y z p q r w z r) (one_short binary64 x y z p q r w))
 
 -- ---- the theorem
 pub plane_found : PlaneFound
@@ -138,9 +129,7 @@ plane_found o (x ∷ y ∷ z ∷ w ∷ a) h l = absurd (omega arith)
 plane_found o (x ∷ y ∷ z ∷ []) h l =
     let a = x ∷ y ∷ z ∷ [] in
     let t = mul binary64 (power_for binary64 (suc (place a h))) in
-    let long = (norm_in_range a h (omega arith)).0 in
-    let f = plane_of_three o (t x) (t y) (t z) (scaled_counts a h) (scaled_under_two a h)
-    (subst (λ (b : Vector). le f1 (norm b) ≡ true) (scaled_is a h) long) in (
+    let f = plane_of_three o (t x) (t y) (t z) (scaled_counts a h) in (
       f.0,
       ap (λ (b : Bool). option_and_then (plane_of o) (cond b (Some (scaled a)) None)) h.is_finite
           ∙ ap (plane_of o) (scaled_is a h)

@@ -1,6 +1,6 @@
 -- Which seed axis `least_aligned_axis` takes of three finite numbers: one where the number is, without its sign, not over the others.
 -- Assumes nothing.
-use Rattle.std.proofs.Common.{◌≡◌, zero, suc, ◌≤◌, Bool, true, false, cond, ◌&&◌, T, ◌⊎◌, List, [], ◌∷◌, ℤ, refl, ap, ◌∙◌, inl, inr, zero-mul, le_of_mul-le-mul_right, arith}
+use Rattle.std.proofs.Common.{◌≡◌, zero, suc, ◌≤◌, Bool, true, false, cond, ◌&&◌, T, ◌⊎◌, List, [], ◌∷◌, ℤ, refl, ap, ◌∙◌, inl, inr, zero-mul, arith}
 use mathlib.Core.Path.{ap₂}
 use lib.Ieee.{Float, nan, inf, fin, Format, up, down, lt, le, eq, neg, is_nan}
 use lib.Ieee.Exact.{HasValue}
@@ -8,7 +8,7 @@ use Rattle.std.proofs.lemmas.Bool.{and_cases, and_parts, cases_Bool}
 use Rattle.std.proofs.lemmas.Float.{le_refl, le_trans, le_of_lt, le_left, lt_of_not-le, T_from_false, T_from_true}
 use Rattle.vector.specs.Number.{abs, f0, f1}
 use Rattle.vector.specs.Vector.{least_aligned_axis}
-use Rattle.vector.proofs.Counts.{count, Counted, one, one_pos, values_le}
+use Rattle.vector.proofs.Counts.{count, Counted, one, le_by_count}
 use Rattle.vector.proofs.Greatest.{minus_below, minus_zero_not_below, plus_not_below}
 
 -- the size with a plus sign, of a zero too
@@ -37,10 +37,7 @@ abs_plain f (fin true (suc m) e) c = rw (minus_below m e) (le_refl (fin false (s
 
 -- ---- two of them
 plain_le : (f : Format) (x y : Float) → Counted f x → Counted f y → T (le (plain x) (plain y)) → count f x ≤ count f y
-plain_le f x y c d h =
-    let p = plain_value f x c in
-    let q = plain_value f y d in
-    le_of_mul-le-mul_right (values_le (plain x) (plain y) (count f x) (one f) (count f y) (one f) (one_pos f) (one_pos f) p q h) (one_pos f)
+plain_le f x y c d h = le_by_count f (plain x) (plain y) (count f x) (count f y) (plain_value f x c) (plain_value f y d) h
 
 module _ (f : Format) (x y : Float) (c : Counted f x) (d : Counted f y) where
   pub abs_le : T (le (abs x) (abs y)) → count f x ≤ count f y
