@@ -8,7 +8,7 @@ ghost use Rattle.clip.specs.Code.{Crossed, Distances, EdgeClipped, FaceCut, Poin
 ghost use Rattle.clip.specs.View.{cut_of, points_of, seg_of};
 
 use crate::{Clipped, Found, next_of, ratio, side_of, signed_at};
-use vector::{absolute, coord, dist2, distance, minus, plus, put, scaled};
+use vector::{absolute, coord, dist2, distance, minus, plus, put, scale};
 
 // The plane or line that cuts, by a point of it and its unit normal, and the tolerance of the tests.
 #[derive(Clone, Copy)]
@@ -213,10 +213,10 @@ fn plane_intersection<const D: usize>(
     ensures { Crossed (cut_of cut.now) a.entry da b.entry db result.point result.defaulted }
 {
     let at = ratio(da, db);
-    let p = plus(a, scaled(minus(b, a), at.t));
+    let p = plus(a, scale(minus(b, a), at.t));
     let d = distance(p, cut.origin, cut.normal);
     Crossing {
-        point: minus(p, scaled(cut.normal, d)),
+        point: minus(p, scale(cut.normal, d)),
         defaulted: at.defaulted,
     }
 }

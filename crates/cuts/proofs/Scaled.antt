@@ -5,15 +5,16 @@ use Rattle.std.specs.Option.{option_and_then}
 use Rattle.std.specs.Float.{binary64}
 use Rattle.std.specs.Float.Ieee.{lt, mul}
 use Rattle.std.proofs.lemmas.List.{length-map}
-use Rattle.rows.specs.Outcome.{unless}
+use Rattle.rows.specs.Outcome.{Outcome, unless}
 use Rattle.vector.specs.Number.{f0}
 use Rattle.vector.specs.Tolerance.{magnitude}
 use Rattle.vector.specs.Vector.{Vector, plane_of, scale, unit, with_normal}
 use Rattle.vector.specs.Scaled.{finite, Held, power, scaled, scaled_normal, units_in}
 use Rattle.vector.specs.declared.Plane.{Plane}
-use Rattle.vector.proofs.ScaledNormals.{unit_found, zero_not_found}
+use Rattle.vector.proofs.Scaled.{unit_found, zero_not_found}
 use Rattle.vector.proofs.ScaledPlanes.{plane_found}
-use Rattle.cuts.specs.Cuts.{frame_in, placed_by, through}
+use Rattle.cuts.specs.Cuts.{frame_in, placed_by, through, through_by}
+use Rattle.cuts.specs.declared.Scaling.TheVariants.{Scaled}
 use Rattle.cuts.specs.Scaled.{FoundIf, has_direction, ScaledFirst, ScaledPlaced}
 
 length_scaled : (v : Vector) → length (scaled v) ≡ length v
@@ -23,10 +24,15 @@ length_scaled v = by (lt f0 (magnitude v))
     by true = length-map v (mul binary64 (power (units_in (magnitude v))))
     by false = refl
 
+-- placing by a scaled normal is placing by what scaling gives, over the width and whatever is made of it
+pub scaled_placed_first : {A : Type 0} (w : ℕ) (o v : Vector) (next : Option Vector → Outcome A) → finite v ≡ true
+    → placed_by w (through_by Scaled o v) (next (scaled_normal v)) ≡ placed_by w (through o (scaled v)) (next (Some (scaled v)))
+scaled_placed_first w o v next f =
+    ap (λ (t : Bool). unless 5 (eqb (length o) w && eqb (length v) w) (next (cond t (Some (scaled v)) None))) f
+    ∙ ap (λ (n : ℕ). unless 5 (eqb (length o) w && eqb n w) (next (Some (scaled v)))) (sym (length_scaled v))
+
 pub scaled_first : ScaledFirst
-scaled_first o v f =
-    ap (λ (x : Option Vector). placed_by 3 (through o v) (frame_in (option_and_then (plane_of o) x))) (ap (λ (t : Bool). cond t (Some (scaled v)) None) f)
-    ∙ ap (λ (n : ℕ). unless 5 (eqb (length o) 3 && eqb n 3) (frame_in (plane_of o (scaled v)))) (sym (length_scaled v))
+scaled_first o v f = scaled_placed_first 3 o v (λ x. frame_in (option_and_then (plane_of o) x)) f
 
 -- some or none
 abbrev pub SomeIf : {A : Type 0} → Bool → Option A → Type 0

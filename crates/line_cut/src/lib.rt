@@ -24,7 +24,7 @@ use clip::{CuttingPlane, Found};
 use cuts::{Size, Through, Way};
 use rows::Refusal;
 use stitch::Strictness;
-use vector::{Plane, coord, plus, put, scaled};
+use vector::{Plane, coord, plus, put, scale};
 
 // Cuts a single cell in space with the line through origin that has this direction: the segments, six numbers each. Tells how many
 // crossings were defaulted, too: of the cell on a plane, and of that section's loops on the line.
@@ -225,5 +225,5 @@ fn put_on_line(flat: &[f64], plane: Plane, out: &mut [f64], from: usize) -> usiz
 fn on_line(a: [f64; 2], plane: Plane) -> [f64; 3]
     ensures { result ≡ on_line plane a }
 {
-    plus(plane.origin, scaled(plane.u, a[0]))
+    plus(plane.origin, scale(plane.u, a[0]))
 }

@@ -11,8 +11,8 @@ use Rattle.cuts.specs.Cuts.{Through}
 use Rattle.cuts.specs.declared.Way.{Way}
 use Rattle.cuts.specs.Scaled.{FoundIf, has_direction}
 use Rattle.cuts.proofs.Placed.{sound_placed}
-use Rattle.cuts.proofs.Scaled.{SomeIf, unit_if}
-use Rattle.plane_cell.specs.PlaneCell.{ScaledPlaced, line_through, line_with, normal_by}
+use Rattle.cuts.proofs.Scaled.{SomeIf, scaled_placed_first, unit_if}
+use Rattle.plane_cell.specs.PlaneCell.{ScaledFirst, ScaledPlaced, line_through, line_with, normal_by}
 
 sound_with : (o : Vector) (tol : Float) (x : Option Vector) → Sound 1 7 (λ l. Unit {0}) (line_with o tol x)
 sound_with o tol (Some n) = tt
@@ -24,6 +24,9 @@ line_placed way g tol =
     (sound_with g.origin tol (normal_by way g.scaling g.vector))
 
 -- ---- by a scaled normal
+pub scaled_first : ScaledFirst
+scaled_first o v tol f = scaled_placed_first 2 o v (λ x. line_with o tol (option_and_then unit x)) f
+
 pub scaled_placed : ScaledPlaced
 scaled_placed o v tol p q h =
     rw (p, q) (by_unit (has_direction v) (option_and_then unit (scaled_normal v)) (unit_if v h (rw q (omega arith))))

@@ -1,15 +1,15 @@
 -- The line cut of a cell in the plane, as an equation over every input: one cell of `slice_2d`, by normal, or by direction as `slice_line`
 -- does; and what docs/RULES.md says of it. Definitions and statements only; the theorems are in proofs/Claims.antt.
-use Rattle.std.specs.Prelude.{◌≡◌, List, [], ◌∷◌, ℕ, ◌*◌, ◌≤◌, leb, length, Float, Option, Some, None}
+use Rattle.std.specs.Prelude.{◌≡◌, true, List, [], ◌∷◌, ℕ, ◌*◌, ◌≤◌, leb, length, Float, Option, Some, None}
 use Rattle.std.specs.Option.{option_and_then}
 use Rattle.rows.specs.Outcome.{Outcome, refused, found, and_then, unless, Sound}
 use Rattle.vector.specs.Vector.{Vector, unit, normal_along}
 use Rattle.vector.specs.Rows.{Seg}
-use Rattle.vector.specs.Scaled.{Held}
+use Rattle.vector.specs.Scaled.{finite, Held, scaled}
 use Rattle.cell.specs.Read.{Polygon, Cell, plane_cell}
 use Rattle.cell.specs.Claims.{SameInPlane}
 use Rattle.clip.specs.Clip.{Cut, plane_section_segments}
-use Rattle.cuts.specs.Cuts.{Through, cut_cell, placed_by, taken, through_by}
+use Rattle.cuts.specs.Cuts.{Through, cut_cell, placed_by, taken, through, through_by}
 use Rattle.cuts.specs.Scaled.{FoundIf, has_direction}
 use Rattle.cuts.specs.declared.Scaling.{Scaling}
 use Rattle.cuts.specs.declared.Scaling.TheVariants.{Scaled}
@@ -33,6 +33,12 @@ line_with o tol x = and_then (normal_in x) (λ u. found (record { origin = o; no
 -- 5 and 6 in the plane
 abbrev pub line_through : W.Way → Through → Float → Outcome Cut
 line_through way g tol = placed_by 2 g (line_with g.origin tol (normal_by way g.scaling g.vector))
+
+-- The scaled way is the way as given, of the scaled normal.
+abbrev pub ScaledFirst : Type 0
+ScaledFirst =
+    (o v : List Float) (tol : Float) → finite v ≡ true
+    → line_through w.Normal (through_by Scaled o v) tol ≡ line_through w.Normal (through o (scaled v)) tol
 
 -- In the scaled way a line is refused with 6 only for a normal of zeros or with a component that is not finite: never for its length.
 abbrev pub ScaledPlaced : Type 0

@@ -15,5 +15,5 @@ pub mod Norms
 pub mod LeastComponent
 pub mod SeedAxis
 pub mod Leaning
-pub mod ScaledNormals
+pub mod Scaled
 pub mod ScaledPlanes

@@ -15,7 +15,7 @@ use Rattle.vector.proofs.Greatest.{CountedInRange}
 use Rattle.vector.proofs.Leaning.{along, bound, rest, rest_least}
 use Rattle.vector.proofs.LeastComponent.{one_under, squares}
 use Rattle.vector.proofs.Norms.{norm_within, under_two}
-use Rattle.vector.proofs.ScaledNormals.{place, scaled_counts, scaled_is}
+use Rattle.vector.proofs.Scaled.{place, scaled_counts, scaled_is}
 use Rattle.vector.proofs.Scaling.{power_for}
 use Rattle.vector.proofs.SeedAxis.{seed_axis}
 use Rattle.vector.proofs.Units.{unit_along}

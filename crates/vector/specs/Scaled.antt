@@ -1,5 +1,5 @@
 -- A normal of any length, multiplied by a power of two before it is made unit, over the width; and what docs/RULES.md says of it.
--- Definitions and statements only; the theorems are in proofs/ScaledNormals.antt, and on planes in proofs/ScaledPlanes.antt.
+-- Definitions and statements only; the theorems are in proofs/Scaled.antt, and on planes in proofs/ScaledPlanes.antt.
 use Rattle.std.specs.Prelude.{◌≡◌, ℕ, ◌*◌, ◌-◌, ◌/◌, ◌^◌, ◌≤◌, Bool, true, false, cond, ◌&&◌, [], ◌∷◌, length, T, ℤ, pos, Float, Option, Some, None}
 use Rattle.std.specs.Option.{option_and_then}
 use Rattle.std.specs.Float.{nan, inf, fin, binary64, float_is_finite}

@@ -68,8 +68,8 @@ impl Plane {
     pub fn deproject(self, p: [f64; 2]) -> [f64; 3]
         ensures { result ≡ deproject self p }
     {
-        let along_u = plus(self.origin, scaled(self.u, p[0]));
-        plus(along_u, scaled(self.v, p[1]))
+        let along_u = plus(self.origin, scale(self.u, p[0]));
+        plus(along_u, scale(self.v, p[1]))
     }
 }
 
@@ -79,7 +79,7 @@ fn plane_basis(normal: [f64; 3]) -> Option<([f64; 3], [f64; 3])>
 {
     let seed = least_aligned_axis(normal);
     let d = dot(seed, normal);
-    let u = unit(minus(seed, scaled(normal, d)))?;
+    let u = unit(minus(seed, scale(normal, d)))?;
     let v = cross(normal, u);
     Some((u, v))
 }
@@ -122,8 +122,8 @@ fn is_finite<const D: usize>(v: [f64; D]) -> bool
     true
 }
 
-// The pattern of the smallest normal number: the exponents of patterns count in it.
-const NORMAL: u64 = 0x10_0000_0000_0000;
+// The pattern of the least normal number, `f64::MIN_POSITIVE`. A pattern is its exponent times this, and digits.
+const LEAST_NORMAL: u64 = 0x10_0000_0000_0000;
 
 // The greatest power of two that is not above x. It is an f64 for every x, while 2^1074, which brings 2^-1074 to 1, is none. So a vector is
 // divided by the one, and a quotient is rounded once.
@@ -132,10 +132,10 @@ fn power_below(x: f64) -> f64
     ensures { result ≡ power_below (units_in x) }
 {
     let b = x.to_bits();
-    if b < NORMAL {
+    if b < LEAST_NORMAL {
         return f64::from_bits(1 << b.ilog2());
     }
-    f64::from_bits(b - b % NORMAL)
+    f64::from_bits(b - b % LEAST_NORMAL)
 }
 
 // Each coordinate divided by n.
@@ -186,7 +186,7 @@ pub fn plus<const D: usize>(a: [f64; D], b: [f64; D]) -> [f64; D]
 }
 
 // t times a.
-pub fn scaled<const D: usize>(a: [f64; D], t: f64) -> [f64; D]
+pub fn scale<const D: usize>(a: [f64; D], t: f64) -> [f64; D]
     ensures { result ≡ scale t a.entry }
 {
     each(Mul::mul, [t; D], a)

@@ -11,7 +11,7 @@ returns d c =
           crossing (cut_of g.cut.now) g.a g.da g.b g.db
           c.ratio-at.ensures.0
           c.minus.ensures
-          c.scaled.ensures c.plus-p.ensures
-          c.distance-d.ensures c.scaled-2.ensures c.minus-2.ensures;
+          c.scale.ensures c.plus-p.ensures
+          c.distance-d.ensures c.scale-2.ensures c.minus-2.ensures;
       defaulted = c.ratio-at.ensures.1;
     }

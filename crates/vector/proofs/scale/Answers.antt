@@ -1,8 +1,8 @@
--- `vector::scaled` meets its contract. Assumes nothing.
+-- `vector::scale` meets its contract. Assumes nothing.
 use Rattle.std.proofs.Common.{◌∙◌, arith, rules}
 use lib.Ieee.{binary64, mul}
 use Rattle.vector.proofs.Coordinates.{each_left}
-use Rattle.vector.proofs.scaled.Goals as goal
+use Rattle.vector.proofs.scale.Goals as goal
 
 pub returns : goal.returns
 returns g c =
