@@ -166,16 +166,17 @@ struct cicelybeam_tolerance {
  * crossing that was rounded may not count as on the plane, and its edge is then not found. Vectors need
  * not be of length 1.
  *
- * scaled chooses how a normal is taken: 0 as it is given, anything else scaled. A normal as given is made unit
- * by its squares, as mefikit does it. They overflow where a component is beyond about 1e154 in absolute value:
- * the unit normal is then 0, and the section silently empty. They lose digits, or are all 0 and the normal is
- * refused with 6, where all components are within about 1e-154. A scaled normal may be of any length: it is first
- * multiplied by the power of two that brings its greatest absolute component to at least 1 and under 2, each
- * component being the exact product rounded once. Its norm is then proved to be from 1 to 4, so it is not refused
- * for its length. A normal of zeros is not scaled and is refused with 6, and so is one with a component that is
+ * scaled chooses how a normal is taken: 0 as it is given, anything else scaled. A normal as it is given is
+ * made unit by its squares, as mefikit does it. They overflow where a component is beyond about 1e154 in
+ * absolute value: the unit normal is then 0, and the section silently empty. They lose digits, or are all 0
+ * and the normal is refused with 6, where all components are within about 1e-153. A normal that is scaled may
+ * be of any length: it is first multiplied by the power of two that brings its greatest absolute component to
+ * at least 1 and under 2, each component being the exact product rounded once. Its norm is then proved to be
+ * from 1 to 4. A normal of zeros is not scaled and is refused with 6, and so is one with a component that is
  * NaN or infinite; no other is. Scale normals that were worked out, by a cross product or a division by a
- * determinant; take them as given to have what mefikit has. Where no square overflows or underflows in either
- * way, the two have had the same answer in every run. Directions are not scaled. */
+ * determinant; take them as given to have what mefikit has. In every run both had the same unit normal where no
+ * square overflows or underflows. Digits that a component lost by being below 2^-1022 do not come back.
+ * Directions are not scaled. */
 
 /* A space cell cut by the plane through origin with this normal, scaled unless scaled is 0, in the strict way
  * unless strict is 0. Points are given in the plane, from origin. Refuses 1 to 7. */
@@ -190,8 +191,9 @@ struct cicelybeam_section cicelybeam_plane(uint8_t type, const uint64_t *conn, s
 /* The segments that cicelybeam_plane stitches, before they are stitched: those of each face, faces in their
  * order, in the plane, from origin; four numbers a segment, at most 3 * m / 2 segments. cicelybeam_stitch of
  * these numbers with the same tol gives what cicelybeam_plane gives with the same scaled and strict, but for
- * defaulted, which is told here, where no call is refused. A face alone can be handed over as a PHED of one face; a cell's
- * segments are those of its faces, in their order, and its defaulted is their sum. Refuses 1 to 7. */
+ * defaulted, which is told here, where no call is refused. A face alone can be handed over as a PHED of one
+ * face; a cell's segments are those of its faces, in their order, and its defaulted is their sum. Refuses 1 to
+ * 7. */
 struct cicelybeam_line cicelybeam_gather(uint8_t type, const uint64_t *conn, size_t conn_len,
                                          const double *coords, size_t coords_len,
                                          const double *origin, size_t origin_len,

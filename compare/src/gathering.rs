@@ -244,8 +244,8 @@ mod tests {
     #[test]
     fn each_build_gathers_alike() {
         let mut random = Random::new(1);
-        for _ in 0..3_000 {
-            let case = any_case_in(&mut random, Entry::Gather, SCALED[0]);
+        for way in [USUAL[0], SCALED[0]].into_iter().cycle().take(6_000) {
+            let case = any_case_in(&mut random, Entry::Gather, way);
             let [mut rust, counted, cosine, rules] = BUILDS.map(|build| answer(&case, build));
             assert_eq!(rust.told.defaulted, 0);
             rust.told.defaulted = rules.told.defaulted;

@@ -93,6 +93,15 @@ def unit_normal(normal: Vector, scaled: bool) -> Vector:
     return n
 
 
+def unit_direction(direction: Vector) -> Vector:
+    """The unit direction of a line, which is not scaled."""
+    if not any(direction):
+        raise Refused(6, detail="give a direction with a component other than 0")
+    d = unit(direction, f"the squares of {direction} underflow to 0; scale it to about 1")
+    check_unit(direction, d, "direction")
+    return d
+
+
 def why_scaled(normal: Vector) -> str:
     """Why it matters that this normal was scaled: why it is refused as it is given, or has another unit normal then. Else nothing.
 
@@ -152,16 +161,14 @@ def plane(origin: Vector, normal: Vector, scaled: bool) -> Frame:
 
 def plane_of_line(origin: Vector, direction: Vector) -> Frame:
     """The plane in which a line cut of a space cell takes place."""
-    d = unit(direction)
-    check_unit(direction, d, "direction")
+    d = unit_direction(direction)
     e2 = unit(cross(d, least_aligned_axis(d)))
     return Frame(origin, cross(d, e2), d, e2)
 
 
 def normal_of_line(direction: Vector) -> Vector:
     """The normal of a line in the plane."""
-    a, b = unit(direction)
-    check_unit(direction, (a, b), "direction")
+    a, b = unit_direction(direction)
     return unit((-b, a))
 
 

@@ -195,7 +195,7 @@ def cut_plane(
     """All cells of a space mesh cut by the plane through origin with this normal, which may be of any length but 0.
 
     The normal is scaled by a power of two before it is made unit; the record says by which where that matters. With `scaled=False` it is
-    taken as it is given, as mefikit takes it: beyond about 1e154, or with all components within about 1.5e-154, its squares overflow or
+    taken as it is given, as mefikit takes it: beyond about 1e154, or with all components within about 1e-153, its squares overflow or
     lose digits, and it is refused or the last digits of its unit normal may be wrong.
 
     The tolerance is the distance up to which a point counts as on the plane and two points as one; by default the

@@ -7,7 +7,7 @@ WORDS = {
     3: "the coordinates are not whole rows",
     4: "the node number of a corner is no row of the coordinates",
     5: "origin, normal or direction has not as many numbers as the mesh has dimensions",
-    6: "the normal or direction has no direction: its norm is not greater than 0, or a component of a scaled normal is not finite",
+    6: "the normal or direction has no direction: its norm is not greater than 0",
     7: "a buffer is too short",
     8: "the segments are not of four numbers each, or are more than 384",
 }

@@ -29,15 +29,15 @@
 //! # The scaled way
 //!
 //! [`cut_by_plane`], [`gather`] and [`cut_plane_cell_by_normal`] take `scaled`: with `false` a normal is taken as it is given,
-//! with `true` scaled. A normal as it is given is made unit by its squares, as mefikit does it. They overflow where a component
-//! is beyond about 1e154 in absolute value: the unit normal is then 0, and the section silently empty. They lose digits, or are
-//! all 0 and the normal is refused with [`Refusal::NoDirection`], where all components are within about 1e-154. A scaled normal
-//! may be of any length: it is first multiplied by the power of two that brings its greatest absolute component to at least 1
-//! and under 2, each component being the exact product rounded once. Its norm is then from 1 to 4, so it is not refused
-//! for its length. A normal of zeros is not scaled and is refused with [`Refusal::NoDirection`], and so is one with a component
-//! that is NaN or infinite; no other is. Scale normals that were worked out, by a cross product or a division by a determinant;
-//! take them as given to have what mefikit has. Where no square overflows or underflows in either way, the two have had the same
-//! answer in every run. Directions are not scaled.
+//! with `true` it is scaled. A normal as it is given is made unit by its squares, as mefikit does it. They overflow where a
+//! component is beyond about 1e154 in absolute value: the unit normal is then 0, and the section silently empty. They lose
+//! digits, or are all 0 and the normal is refused with [`Refusal::NoDirection`], where all components are within about 1e-153. A
+//! normal that is scaled may be of any length: it is first multiplied by the power of two that brings its greatest absolute
+//! component to at least 1 and under 2, each component being the exact product rounded once. Its norm is then proved to be from
+//! 1 to 4. A normal of zeros is not scaled and is refused with [`Refusal::NoDirection`], and so is one with a component that is
+//! NaN or infinite; no other is. Scale normals that were worked out, by a cross product or a division by a determinant; take
+//! them as given to have what mefikit has. In every run both had the same unit normal where no square overflows or underflows.
+//! Digits that a component lost by being below 2^-1022 do not come back. Directions are not scaled.
 //!
 //! ```
 //! use cicelybeam::{cut_by_plane, SpaceType};
