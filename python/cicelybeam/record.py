@@ -174,6 +174,8 @@ class PlaneRecord:
                              f"flat and that no other cell shares, of {number(len(self.jump_cells), 'cell')}{some(self.jump_cells)}"))
         if not math.isfinite(self.area):
             found.append((3, "the area is too large for a number, or not one: scale the mesh"))
+        elif math.isinf(self.tolerance * self.tolerance):
+            found.append((3, "the square of the tolerance is too large for a number, so that all points of a cell become one: scale the mesh or give a smaller tolerance"))
         if self.not_finite:
             found.append((3, f"{number(len(self.not_finite), 'cell')} with a corner coordinate that is not finite{some(self.not_finite)}"))
         if self.defaulted:

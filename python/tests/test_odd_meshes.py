@@ -81,3 +81,13 @@ def test_area_that_overflows():
 def test_distances_that_are_refused(cube, most):
     with pytest.raises(cicelybeam.CicelybeamError, match="not a number above 0"):
         cicelybeam.cut_plane(cube, (0, 0, 0.5), (0, 0, 1), shift=True, shift_most=most)
+
+
+def test_a_squared_tolerance_that_overflows_is_told():
+    """All points of a cell become one then, and nothing is drawn: the area 0 is not that of the section."""
+    mesh, origin = box(2), np.array([0.0, 0.0, 0.4])
+    assert cicelybeam.cut_plane(mesh, origin, (0, 0, 1)).record.reasons == []
+    mesh.points *= 1e200
+    record = cicelybeam.cut_plane(mesh, 1e200 * origin, (0, 0, 1)).record
+    assert record.area == 0.0 and [status for status, _ in record.reasons] == [3]
+    assert record.reasons[0][1].endswith("scale the mesh or give a smaller tolerance")
