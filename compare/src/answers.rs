@@ -48,8 +48,8 @@ pub fn as_given(case: &Case) -> Cow<'_, Case> {
     })
 }
 
-/// The answer, by this build of the Rust, to a scaled normal by the plain model's, and in the strict way by another walk too. `Build::Rust` tells neither crossings in the middle by default nor comparisons of
-/// points: it counts none.
+/// The answer, by this build of the Rust, to a scaled normal by the plain model's, and in the strict way by another walk too.
+/// `Build::Rust` tells neither crossings in the middle by default nor comparisons of points: it counts none.
 pub fn answer(case: &Case, build: Build) -> Answer {
     let case = &*as_given(case);
     let found = match case.entry {

@@ -1,5 +1,6 @@
 //! The rules' worked cases, each with the answer told there, written from its words; and cases of crossings in the middle by
-//! default, of comparisons of points, of the strict way and of the scaled one, worked by hand. The comparisons of all cases are worked by hand.
+//! default, of comparisons of points, of the strict way and of the scaled one, worked by hand. The comparisons of all cases
+//! are worked by hand.
 //!
 //! Case 12, two square roots, is no case of an entry that compares with the Rust: it stands in `roots`.
 

@@ -127,8 +127,8 @@ pub const MOST_SEGMENTS: usize = 384;
 ///
 /// `tol` is the distance up to which a point counts as on the plane, and two points as one: usually
 /// [`tolerance_in_space`] of the mesh. Any number is taken. With less than that, a crossing that was rounded
-/// may not count as on the plane, and its edge is then not found. `scaled` chooses [how the normal is taken](crate#the-scaled-way),
-/// and `strict` [the way](crate#the-strict-way).
+/// may not count as on the plane, and its edge is then not found. `scaled` chooses
+/// [how the normal is taken](crate#the-scaled-way), and `strict` [the way](crate#the-strict-way).
 ///
 /// ```
 /// use cicelybeam::{cut_by_plane, Refusal, SpaceType};
@@ -172,9 +172,10 @@ pub fn cut_by_plane(
 /// The segments that [`cut_by_plane`] stitches, before they are stitched: those of each face, faces in their order,
 /// in the plane's own coordinates.
 ///
-/// [`stitch`] of them with the same `tol` gives what [`cut_by_plane`] gives with the same `scaled` and `strict`, but for `defaulted`,
-/// which is told here: stitching computes no crossing. `scaled` chooses [how the normal is taken](crate#the-scaled-way). A face alone can be handed over as a [`SpaceType::Phed`] of one face; a cell's
-/// segments are those of its faces, in their order, and its `defaulted` is their sum.
+/// [`stitch`] of them with the same `tol` gives what [`cut_by_plane`] gives with the same `scaled` and `strict`, but for
+/// `defaulted`, which is told here: stitching computes no crossing. `scaled` chooses
+/// [how the normal is taken](crate#the-scaled-way). A face alone can be handed over as a [`SpaceType::Phed`] of one face; a
+/// cell's segments are those of its faces, in their order, and its `defaulted` is their sum.
 ///
 /// ```
 /// use cicelybeam::{cut_by_plane, gather, stitch, Section, SpaceType};

@@ -1,5 +1,6 @@
 //! Holds gathering against mefikit's Rust and the rules' refusals, and on the same cells gathering, then stitching,
-//! against the plane cut, in the usual way and in the strict one in turn, by normals as they are given and scaled. The number is that of cells.
+//! against the plane cut, in the usual way and in the strict one in turn, by normals as they are given and scaled. The number
+//! is that of cells.
 
 use compare::cutting::compare_refusals;
 use compare::entries::{ours, Entry};

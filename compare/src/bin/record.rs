@@ -1,6 +1,7 @@
 //! Writes what crates/replay reads: the rules' worked cases with the answers told there, what the Rust
-//! answers to some thousands of cases, refusals among them, and in the strict way the Rust and another walk, by a scaled normal the
-//! Rust by that of the plain model; the machine's square roots; and answers with one thing wrong. The format stands in compare/src/recorded.rs. Right answers are held against the linked entries first.
+//! answers to some thousands of cases, refusals among them, and in the strict way the Rust and another walk, by a scaled
+//! normal the Rust by that of the plain model; the machine's square roots; and answers with one thing wrong. The format
+//! stands in compare/src/recorded.rs. Right answers are held against the linked entries first.
 
 use compare::answers::{answer, given, Answer};
 use compare::cuts::{any_case_in, refusals, sound, spoil};

@@ -4,6 +4,7 @@ use Rattle.std.specs.Prelude.{◌≡◌, List, ℕ, ◌/◌, ◌*◌, ◌≤◌,
 use Rattle.vector.specs.Vector.{Vector, deproject, project}
 use Rattle.vector.specs.declared.Plane.{Plane}
 use Rattle.vector.specs.Rows.{put, row, rows, segs}
+use Rattle.vector.specs.Scaled.{scaled_normal}
 use Rattle.clip.specs.Clip.{Cut, plane_section_segments}
 use Rattle.clip.specs.Cell.{at_most}
 use Rattle.clip.specs.Code.{Segments}
@@ -104,9 +105,10 @@ FrameGiven f r out out' = Given frame_rows f r out out'
 abbrev pub UnitGiven : Option Vector → ℕ → List Float → List Float → Type 0
 UnitGiven a r out out' = Given (λ v xs. put 2 xs 0 v) a r out out'
 
--- a vector of w numbers
-abbrev pub VectorGiven : ℕ → Option Vector → ℕ → List Float → List Float → Type 0
-VectorGiven w a r out out' = Given (λ v xs. put w xs 0 v) a r out out'
+-- the scaled normal of w numbers, where the lengths fit
+abbrev pub ScalingGiven : ℕ → List Float → ℕ → List Float → List Float → Type 0
+ScalingGiven w n r out out' =
+    Total ((w ≤ length n) × (w ≤ length out)) (Given (λ v xs. put w xs 0 v) (scaled_normal (row w n 0)) r out out') (Refused r out out')
 
 -- the plane whose origin, u and v are the first three rows; its normal is not read
 abbrev pub plane_in : List Float → Plane

@@ -7,10 +7,9 @@ ghost use Rattle.std.specs.Prelude.{◌≡◌, [], ◌∷◌, ◌/◌, ◌<◌, 
 ghost use Rattle.vector.specs.Rows.{put, row};
 ghost use Rattle.vector.specs.Vector.{line_of, normal_along, plane_of, unit};
 ghost use Rattle.vector.specs.Tolerance.{tolerance};
-ghost use Rattle.vector.specs.Scaled.{scaled_normal};
 ghost use Rattle.stitch.specs.Code.{Stitchable};
 ghost use Rattle.stitch.specs.Entry.{strictness_of};
-ghost use Rattle.trial.specs.Trial.{ClipFits, Clips, FrameGiven, Refused, Stitching, Total, Unclipped, UnitGiven, Unstitched, VectorGiven, deprojected, plane_in, projected, stitched_in};
+ghost use Rattle.trial.specs.Trial.{ClipFits, Clips, FrameGiven, Refused, ScalingGiven, Stitching, Total, Unclipped, UnitGiven, Unstitched, deprojected, plane_in, projected, stitched_in};
 
 use clip::polygon::{Cut, plane_section_segments};
 use stitch::{StitchedSegments, Strictness};
@@ -291,29 +290,27 @@ fn put_unit(found: Option<[f64; 2]>, out: &mut [f64]) -> usize
 // A normal in space, scaled, written to out. Gives 1, or 0 if a component is not finite.
 #[unsafe(no_mangle)]
 pub extern "C" fn trial_scaled_in_space(normal: &[f64], out: &mut [f64]) -> usize
-    ensures { Total ((3 ≤ length normal.now) × (3 ≤ length out.old))
-        (VectorGiven 3 (scaled_normal (row 3 normal.now 0)) result out.old out.new) (Refused result out.old out.new) }
+    ensures { ScalingGiven 3 normal.now result out.old out.new }
 {
-    if normal.len() < 3 || out.len() < 3 {
-        return REFUSED;
-    }
-    let Some(scaled) = vector::scaled_normal(coord::<3>(normal, 0)) else {
-        return 0;
-    };
-    put(out, 0, scaled);
-    1
+    put_scaled::<3>(normal, out)
 }
 
 // The same in the plane.
 #[unsafe(no_mangle)]
 pub extern "C" fn trial_scaled_in_plane(normal: &[f64], out: &mut [f64]) -> usize
-    ensures { Total ((2 ≤ length normal.now) × (2 ≤ length out.old))
-        (VectorGiven 2 (scaled_normal (row 2 normal.now 0)) result out.old out.new) (Refused result out.old out.new) }
+    ensures { ScalingGiven 2 normal.now result out.old out.new }
 {
-    if normal.len() < 2 || out.len() < 2 {
+    put_scaled::<2>(normal, out)
+}
+
+// Writes a normal of D numbers, scaled. Gives 1, or 0 if a component is not finite.
+fn put_scaled<const D: usize>(normal: &[f64], out: &mut [f64]) -> usize
+    ensures { ScalingGiven D normal.now result out.old out.new }
+{
+    if normal.len() < D || out.len() < D {
         return REFUSED;
     }
-    let Some(scaled) = vector::scaled_normal(coord::<2>(normal, 0)) else {
+    let Some(scaled) = vector::scaled_normal(coord::<D>(normal, 0)) else {
         return 0;
     };
     put(out, 0, scaled);
