@@ -128,13 +128,14 @@ pub fn stitch_segments(
         strictness,
     };
     if segments.len() / 4 <= 16 {
-        return stitch_within::<16, 32>(segments, rule, numbers, nodes, ends);
+        return stitch_within::<16, 17, 32>(segments, rule, numbers, nodes, ends);
     }
-    stitch_within::<384, 768>(segments, rule, numbers, nodes, ends)
+    stitch_within::<384, 385, 768>(segments, rule, numbers, nodes, ends)
 }
 
-// Stitches by a rule, with tables for EDGES segments and their POINTS points, and marks for all 384 places.
-fn stitch_within<const EDGES: usize, const POINTS: usize>(
+// Stitches by a rule, with tables for EDGES segments, for the NODES of a walk along them and for their POINTS points, and marks for all 384
+// places.
+fn stitch_within<const EDGES: usize, const NODES: usize, const POINTS: usize>(
     segments: &[f64],
     rule: Rule,
     numbers: &mut [f64],
@@ -142,7 +143,7 @@ fn stitch_within<const EDGES: usize, const POINTS: usize>(
     ends: &mut [u32],
 ) -> StitchedSegments
     requires { Stitchable (length segments.now / 4) numbers.old nodes.old ends.old
-        × (length segments.now / 4 ≤ EDGES) × (EDGES < POINTS) × (2 * EDGES ≤ POINTS) × (POINTS ≤ 768) }
+        × (length segments.now / 4 ≤ EDGES) × (EDGES < NODES) × (NODES ≤ 385) × (2 * EDGES ≤ POINTS) × (POINTS ≤ 768) }
     ensures { Stitches rule (all_segs 2 segments.now) result.stitched
         numbers.old numbers.new nodes.old nodes.new ends.old ends.new
         × ComparisonsOf rule.tol2 (all_segs 2 segments.now) result.comparisons }
@@ -152,7 +153,7 @@ fn stitch_within<const EDGES: usize, const POINTS: usize>(
         larger: 0,
     }; EDGES];
     let mut used = [false; 384];
-    let mut walked = [0; POINTS];
+    let mut walked = [0; NODES];
     let mut past = [0; POINTS];
     let w = weld::weld(segments, rule.tol2, numbers, &mut edges);
     walk::past_edges(&edges[..w.edges], &mut past);
@@ -340,8 +341,19 @@ fn put_loop(nodes: &[u32], reversed: bool, out: &mut [u32], at: usize)
         (cond reversed (reverse nodes.now) nodes.now) (length nodes.now) }
 {
     let part = &mut out[at..at + nodes.len()];
-    part.copy_from_slice(nodes);
+    put_nodes(nodes, part);
     if reversed {
         part.reverse();
+    }
+}
+
+// Writes nodes over a slice of their length, one by one: `copy_from_slice` calls `memmove`, which the linked library would need from the
+// C library for this alone.
+fn put_nodes(nodes: &[u32], out: &mut [u32])
+    requires { length out.old ≡ length nodes.now }
+    ensures { out.new ≡ nodes.now }
+{
+    for (j, &node) in nodes.iter().enumerate() {
+        out[j] = node;
     }
 }

@@ -8,7 +8,7 @@ use Rattle.stitch.proofs.stitch_within.Goals as goal
 
 pub stitch_edges-tally-requires : goal.stitch_edges-tally-requires
 stitch_edges-tally-requires g c = (
-  welded_spare c.args.rule c.weld-w.ensures.0 c.requires.0 (omega arith) _ (omega (arith, length-replicate g.row.POINTS zero)),
+  welded_spare c.args.rule c.weld-w.ensures.0 c.requires.0 (omega arith) _ (omega (arith, length-replicate g.row.NODES zero)),
   fresh c.args.rule c.weld-w.ensures.0 c.requires.0 (omega arith) 384 c.requires.0.few,
   few_points c.args.rule c.weld-w.ensures.0 c.requires.0 (omega arith) c.weld-w.auto.points,
 )
