@@ -43,7 +43,7 @@ module _ {c : Cut} {f : Plane} {w p q : ℕ} {es : List ℕ} {ps xs : List Float
   pub face_from : s ≤ get_or es i 0
   face_from = fits.0
 
-  face_to : get_or es i 0 ≤ length ps / w
+  pub face_to : get_or es i 0 ≤ length ps / w
   face_to = fit_most (get_or es i 0) (drop (i + 1) es) (length ps / w) p q fits.3
 
   pub face_end : w * get_or es i 0 ≤ length ps
